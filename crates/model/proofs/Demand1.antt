@@ -1,0 +1,89 @@
+-- Demand 1 on the definitions: every answer is granted or one of the call's own refusals, and an input that breaks several rules meets
+-- the one that the paper puts first.
+-- Assumes nothing.
+use Prim.Native.Nat.{ℕ}
+use native.Mathlib.Omega.{arith}
+use mathlib.Core.Path.{_≡_, refl, ap}
+use mathlib.Core.Logic.{_↔_, inl, inr}
+use mathlib.Core.List.{List, [], _∷_, List·Memᴰ·head, List·Memᴰ·tail}
+use Rattle.model.specs.Relations.{Net}
+use Rattle.model.specs.Machine.{Request, Counts, Effect, Board, Entry, State, activation, deactivation, effect, make-request, undo-from, settle, reply, respond, reading, reading-checks}
+use Rattle.model.specs.Image.{Format, load, load-checks, compose, compose-checks}
+use Rattle.model.specs.Claims.{OneOf, FirstBroken, InOrder, numbers, call-refusals}
+use lib.ListN.{length}
+use Rattle.model.specs.declared.Call.{Call}
+use Rattle.model.specs.declared.Call.the-variants.{Activate, Deactivate, Undo, Settle}
+use Rattle.model.specs.declared.Verdict.the-variants.{Refused}
+use Rattle.model.proofs.Checks.{one-of, refused-first, in-order}
+use Rattle.model.proofs.Effects.{Judged, outside, unfinished, unclear, completed, judged}
+
+-- the order of loading
+pub load-order : (f : Format) (img : List ℕ) → numbers (load-checks f img) ≡ 1 ∷ 2 ∷ 3 ∷ 4 ∷ 5 ∷ 6 ∷ 7 ∷ 9 ∷ []
+load-order f img = refl
+
+-- the order of composing
+pub compose-order : (f : Format) (caps bs : List ℕ) (room : ℕ) → numbers (compose-checks f caps bs room) ≡ 3 ∷ 5 ∷ 6 ∷ 7 ∷ 8 ∷ []
+compose-order f caps bs room = refl
+
+-- the one check of a reading
+pub reading-order : (n c : ℕ) → numbers (reading-checks n c) ≡ 10 ∷ []
+reading-order n c = refl
+
+pub load-answers : (f : Format) (img : List ℕ) → OneOf (1 ∷ 2 ∷ 3 ∷ 4 ∷ 5 ∷ 6 ∷ 7 ∷ 9 ∷ []) (load f img .verdict)
+unfolding load
+load-answers f img = one-of (load-checks f img)
+
+pub compose-answers : (f : Format) (caps bs out : List ℕ) → OneOf (3 ∷ 5 ∷ 6 ∷ 7 ∷ 8 ∷ []) (compose f caps bs out .verdict)
+unfolding compose
+compose-answers f caps bs out = one-of (compose-checks f caps bs (length out))
+
+pub reading-answers : (n c count : ℕ) → OneOf (10 ∷ []) (reading n c count .verdict)
+unfolding reading
+reading-answers n c count = one-of (reading-checks n c)
+
+-- of any two rules that an input breaks, the one with the lower number is met
+pub load-in-order : (f : Format) (img : List ℕ) → InOrder (load-checks f img)
+load-in-order f img = in-order (load-checks f img) refl
+
+pub compose-in-order : (f : Format) (caps bs : List ℕ) (room : ℕ) → InOrder (compose-checks f caps bs room)
+compose-in-order f caps bs room = in-order (compose-checks f caps bs room) refl
+
+-- a refused load or composing names the first check that is broken
+pub load-first : (f : Format) (img : List ℕ) (k : ℕ) → load f img .verdict ≡ Refused k → FirstBroken (load-checks f img) k
+unfolding load
+load-first f img k e = refused-first (load-checks f img) k e
+
+pub compose-first : (f : Format) (caps bs out : List ℕ) (k : ℕ) → compose f caps bs out .verdict ≡ Refused k → FirstBroken (compose-checks f caps bs (length out)) k
+unfolding compose
+compose-first f caps bs out k e = refused-first (compose-checks f caps bs (length out)) k e
+
+effect-answers : (net : Net) (m : Counts) (r : Request) → OneOf (10 ∷ 11 ∷ 12 ∷ []) (effect net m r .answer .verdict)
+effect-answers net m r = go (judged net m r)
+  where
+    go : Judged net m r → OneOf (10 ∷ 11 ∷ 12 ∷ []) (effect net m r .answer .verdict)
+    go (outside h e) = inr (10, List·Memᴰ·head refl, ap (λ (x : Effect). x .answer .verdict) e)
+    go (unfinished h u e) = inr (11, List·Memᴰ·tail (List·Memᴰ·head refl), ap (λ (x : Effect). x .answer .verdict) e)
+    go (unclear h q k e) = inr (12, List·Memᴰ·tail (List·Memᴰ·tail (List·Memᴰ·head refl)), ap (λ (x : Effect). x .answer .verdict) e)
+    go (completed h c e) = inl (ap (λ (x : Effect). x .answer .verdict) e)
+
+undo-answers : (b : Board) (es : List Entry) → OneOf (13 ∷ []) (undo-from b es .answer .verdict)
+unfolding undo-from
+undo-answers b [] = inr (13, List·Memᴰ·head refl, refl)
+undo-answers b (e ∷ es) = inl refl
+
+-- undo meets 13 exactly where nothing is open
+pub undo-refused : (s : State) → (respond s Undo .answer .verdict ≡ Refused 13) ↔ (s .board .opened ≡ [])
+unfolding respond reply undo-from
+undo-refused s = go (s .board .opened)
+  where
+    go : (es : List Entry) → (undo-from (s .board) es .answer .verdict ≡ Refused 13) ↔ (es ≡ [])
+    go [] = (λ _. refl, λ _. refl)
+    go (e ∷ es) = (λ p. let z : _≡_ {A = ℕ} 0 1 = cc in absurd (omega arith), λ p. let z : _≡_ {A = ℕ} 0 1 = cc in absurd (omega arith))
+
+-- every call on the machine
+pub call-answers : (s : State) (c : Call) → OneOf (call-refusals c) (respond s c .answer .verdict)
+unfolding respond reply make-request settle
+call-answers s (Activate c) = effect-answers (s .board .net) (s .board .counts) (activation c)
+call-answers s (Deactivate c) = effect-answers (s .board .net) (s .board .counts) (deactivation c)
+call-answers s Undo = undo-answers (s .board) (s .board .opened)
+call-answers s Settle = inl refl

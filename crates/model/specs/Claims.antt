@@ -1,0 +1,182 @@
+-- What the theorems say: the order of refusals, demand 3 on the machine, and the image. docs/CLAIMS.md has each theorem in a sentence.
+-- The limits and refusals are written here as numbers once more, so that a claim can be read without the definitions' names.
+-- Assumes nothing.
+use Prim.Native.Nat.{ℕ, _+_, _*_, _^_, _<_, _≤_, min}
+use mathlib.Core.Path.{_≡_}
+use mathlib.Core.Logic.{_⊎_, _↔_}
+use mathlib.Core.Bool.{Bool, true, false}
+use mathlib.Core.Option.{none, some}
+use mathlib.Core.List.{List, [], _∷_, _++_, List·Memᴰ, reverse, map}
+use lib.ListN.{length, drop, getD}
+use Rattle.model.specs.Sets.{Each, IsByte, any, count-passing}
+use Rattle.model.specs.Refusals
+use Rattle.model.specs.Refusals.{Check, refuse, first-refusal, is-granted}
+use Rattle.model.specs.Relations.{Net, size, relation-count, capacity, related, has-zero, misfit, repeats, excludes, implies, requires}
+use Rattle.model.specs.Transitions.{Transition}
+use Rattle.model.specs.Firing.{Marking, Outcome, next-of, clear}
+use Rattle.model.specs.Machine.{Request, Counts, Event, State, Tally, zeros, step-of, effect, begin, after, log, standing, requested, history, replayed-calls, requests, adds-granted, adds-refused, adds-undone}
+use Rattle.model.specs.Image.{Format, Loaded, Composed, image, bad-sizes, relations-size, records-size}
+use Rattle.model.specs.declared.Call.{Call}
+use Rattle.model.specs.declared.Call.the-variants.{Activate, Deactivate, Undo, Settle}
+use Rattle.model.specs.declared.Verdict.{Verdict}
+use Rattle.model.specs.declared.Verdict.the-variants.{Granted, Refused}
+
+-- ---- nets and formats
+
+-- no relation of the net meets refusal 6
+abbrev pub Fits : Net → Type 0
+Fits net = any (misfit (size net)) (net .rels) ≡ false
+
+-- a list of capacities and relations that a format admits: no check of composing but 8 refuses it
+pub record Valid (f : Format) (net : Net) : Type 0 where
+  pub sizes : bad-sizes f (size net) (relation-count net) ≡ false
+  pub bytes : Each IsByte (net .caps)
+  pub caps : has-zero (net .caps) ≡ false
+  pub fits : Fits net
+  pub once : repeats (net .rels) ≡ false
+
+-- A format whose fields hold what its limits allow. Both editions do.
+pub record Usable (f : Format) : Type 0 where
+  pub numbers-fit : 2 * f .max-contexts + f .max-relations < 256 ^ f .count-bytes
+  pub ends-fit : f .max-contexts ≤ 256 ^ f .end-bytes
+  pub distances-fit : relations-size f (f .max-relations) + records-size f (2 * f .max-contexts + f .max-relations) < 256 ^ f .distance-bytes
+  pub sets-fit : f .max-contexts ≤ 8 * f .set-width
+  pub edition-fits : f .edition < 256
+
+-- ---- demand 1: refusals and their order
+
+-- a check whose rule is kept
+abbrev pub Passes : Check → Type 0
+Passes c = c .broken ≡ false
+
+-- the numbers that checks refuse with, in order
+abbrev pub numbers : List Check → List ℕ
+numbers = map (λ (c : Check). c .number)
+
+-- a verdict that is granted, or a refusal with one of these numbers
+abbrev pub OneOf : List ℕ → Verdict → Type 0
+OneOf ks v = (v ≡ Granted) ⊎ ((k : ℕ) × List·Memᴰ k ks × (v ≡ Refused k))
+
+-- a refusal's reason: a check of this number that is broken, and every check before it passes
+pub record FirstBroken (cs : List Check) (k : ℕ) : Type 0 where
+  pub before : List Check
+  pub found : Check
+  pub behind : List Check
+  pub split : cs ≡ before ++ (found ∷ behind)
+  pub passed : Each Passes before
+  pub broken : found .broken ≡ true
+  pub number : found .number ≡ k
+
+-- Of any two checks of a list the earlier goes first: where it is broken, the later one's number is never the answer.
+abbrev pub InOrder : List Check → Type 0
+InOrder cs =
+    (i j : ℕ) → i < j → j < length cs → getD cs i (refuse 0 false) .broken ≡ true
+    → first-refusal cs ≡ Refused (getD cs j (refuse 0 false) .number) → ⊥
+
+-- which refusals a call can meet
+abbrev pub call-refusals : Call → List ℕ
+call-refusals (Activate c) = Refusals.no-such-context ∷ Refusals.step-limit-met ∷ Refusals.tokens-left ∷ []
+call-refusals (Deactivate c) = Refusals.no-such-context ∷ Refusals.step-limit-met ∷ Refusals.tokens-left ∷ []
+call-refusals Undo = Refusals.nothing-open ∷ []
+call-refusals Settle = []
+
+-- a step that made all its firings and could go on
+pub record Unfinished (net : Net) (o : Outcome) : Type 0 where
+  pub firings : length (o .fired) ≡ 4096
+  pub enabled : (t : Transition) × (next-of net (o .marking) ≡ some t)
+
+-- a step that ended because nothing was enabled
+pub record Quiet (net : Net) (o : Outcome) : Type 0 where
+  pub quiet : o .quiet ≡ true
+  pub still : next-of net (o .marking) ≡ none
+
+-- a step as a granted request has it: nothing enabled, and nothing left on a temporary place
+pub record Completed (net : Net) (o : Outcome) : Type 0 where
+  pub quiet : Quiet net o
+  pub cleared : clear net (o .marking) ≡ true
+
+-- exactly when a request gets which verdict
+pub record Explained (net : Net) (m : Counts) (r : Request) : Type 0 where
+  pub ten : (effect net m r .answer .verdict ≡ Refused 10) ↔ (size net ≤ r .context)
+  pub eleven : (effect net m r .answer .verdict ≡ Refused 11) ↔ ((r .context < size net) × Unfinished net (step-of net m r))
+  pub twelve :
+      (effect net m r .answer .verdict ≡ Refused 12)
+      ↔ ((r .context < size net) × Quiet net (step-of net m r) × (clear net (step-of net m r .marking) ≡ false))
+  pub granted : (effect net m r .answer .verdict ≡ Granted) ↔ ((r .context < size net) × Completed net (step-of net m r))
+
+-- ---- demand 3: what holds after every list of calls
+
+-- a context that is active
+abbrev pub Active : Counts → ℕ → Type 0
+Active m c = 0 < m c
+
+-- What the relations promise of counts: none above its capacity, no two active that exclude each other, and nothing active without what it
+-- implies and requires.
+pub record Rules (net : Net) (m : Counts) : Type 0 where
+  pub within : (c : ℕ) → c < size net → m c ≤ capacity net c
+  pub excluding : (a b : ℕ) → related (net .rels) excludes a b ≡ true → Active m a → Active m b → ⊥
+  pub implying : (a b : ℕ) → related (net .rels) implies a b ≡ true → Active m a → Active m b
+  pub requiring : (a b : ℕ) → related (net .rels) requires a b ≡ true → Active m a → Active m b
+
+-- the marking with these counts and empty temporary places
+abbrev pub at-rest : Counts → Marking
+at-rest m = record { count = m; pr = zeros; prNot = zeros }
+
+-- resting, as document 02 has it in request j
+pub record Resting (net : Net) (m : Counts) : Type 0 where
+  pub within : (c : ℕ) → c < size net → m c ≤ capacity net c
+  pub still : next-of net (at-rest m) ≡ none
+
+-- where the event is a granted request, its step completed
+abbrev pub Completes : Net → Event → Type 0
+Completes net e =
+    Each (λ (r : Request). is-granted (e .answer .verdict) ≡ true → Completed net (step-of net (e .before) r)) (requested (e .call))
+
+-- a total: how many events add to it, stopped at the limit
+abbrev pub total-of : (Call → Verdict → Bool) → List Event → ℕ
+total-of adds es = min (count-passing (λ (e : Event). adds (e .call) (e .answer .verdict)) es) 4294967295
+
+-- the three totals after these events
+pub record Totals (t : Tally) (es : List Event) : Type 0 where
+  pub granted : t .granted ≡ total-of adds-granted es
+  pub refused : t .refused ≡ total-of adds-refused es
+  pub undone : t .undone ≡ total-of adds-undone es
+
+-- the state after the calls and the events of the calls, on a machine that starts with a net at these counts
+abbrev pub ending : Net → Counts → List Call → State
+ending net m₀ cs = after (begin net m₀) cs
+
+abbrev pub events : Net → Counts → List Call → List Event
+events net m₀ cs = log (begin net m₀) cs
+
+-- Demand 3: one claim about a whole list of calls. A freshly loaded net starts at zeros; the claim is for any start that keeps the rules.
+pub record Demand3 (net : Net) (m₀ : Counts) (cs : List Call) : Type 0 where
+  pub net-kept : ending net m₀ cs .board .net ≡ net
+  -- replaying the history gives these very counts
+  pub replayed : ending net m₀ (replayed-calls (events net m₀ cs)) .board .counts ≡ ending net m₀ cs .board .counts
+  -- and makes the same events again: each request granted, with its firings and the counts that it had before and after
+  pub regranted : events net m₀ (replayed-calls (events net m₀ cs)) ≡ standing [] (events net m₀ cs)
+  pub all-granted : Each (λ (e : Event). is-granted (e .answer .verdict) ≡ true) (standing [] (events net m₀ cs))
+  -- the history is what was settled and then what is open
+  pub listed :
+      history (events net m₀ cs) ≡ reverse (requests (ending net m₀ cs .board .opened) ++ ending net m₀ cs .board .settled)
+  pub open-bound : length (ending net m₀ cs .board .opened) ≤ 32
+  pub rules : Rules net (ending net m₀ cs .board .counts)
+  -- a number that is no context keeps its count
+  pub beyond : (c : ℕ) → size net ≤ c → ending net m₀ cs .board .counts c ≡ m₀ c
+  pub completed : Each (Completes net) (events net m₀ cs)
+  pub totals : Totals (ending net m₀ cs .tally) (events net m₀ cs)
+
+-- ---- the image
+
+-- what is known of an accepted image: it is the image of the net that it gives, and that net is valid
+pub record Accepted (f : Format) (img : List ℕ) (l : Loaded) : Type 0 where
+  pub is-image : image f (l .net) ≡ img
+  pub valid : Valid f (l .net)
+
+-- what is known of granted composing of a net into an output with these bytes
+pub record Composes (f : Format) (net : Net) (out : List ℕ) (c : Composed) : Type 0 where
+  pub valid : Valid f net
+  pub fits : length (image f net) ≤ length out
+  pub written-is : c .written ≡ length (image f net)
+  pub output-is : c .output ≡ image f net ++ drop (length (image f net)) out
