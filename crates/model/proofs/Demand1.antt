@@ -1,19 +1,24 @@
 -- Demand 1 on the definitions: every answer is granted or one of the call's own refusals, and an input that breaks several rules meets
 -- the one that the paper puts first.
 -- Assumes nothing.
-use Prim.Native.Nat.{ℕ}
+use Prim.Native.Nat.{ℕ, _<_}
 use native.Mathlib.Omega.{arith}
-use mathlib.Core.Path.{_≡_, refl, ap}
-use mathlib.Core.Logic.{_↔_, inl, inr}
-use mathlib.Core.List.{List, [], _∷_, List·Memᴰ·head, List·Memᴰ·tail}
-use Rattle.model.specs.Relations.{Net}
-use Rattle.model.specs.Machine.{Request, Counts, Effect, Board, Entry, State, activation, deactivation, effect, make-request, undo-from, settle, reply, respond, reading, reading-checks}
-use Rattle.model.specs.Image.{Format, load, load-checks, compose, compose-checks}
-use Rattle.model.specs.Claims.{OneOf, FirstBroken, InOrder, numbers, call-refusals}
-use lib.ListN.{length}
+use mathlib.Core.Path.{_≡_, refl, sym, subst, ap}
+use mathlib.Core.Logic.{_↔_, inl, inr, ⊎-elim}
+use mathlib.Core.Bool.{Bool, cond}
+use mathlib.Core.List.{List, [], _∷_, _++_, List·Memᴰ, List·Memᴰ·head, List·Memᴰ·tail, List·Memᴰ·not-nil, List·Memᴰ·cases-cons}
+use borrow.Author.Tests.{lt-leb, le-leb}
+use Rattle.model.specs.Sets.{Each, nil, cons}
+use Rattle.model.specs.Refusals.{verdict-number, is-granted, refuse, first-refusal, no-such-context}
+use Rattle.model.specs.Relations.{Net, size, empty-net}
+use Rattle.model.specs.Machine.{Request, Counts, Effect, Board, Entry, State, Reading, activation, deactivation, effect, make-request, undo-from, settle, reply, respond, reading, reading-checks}
+use Rattle.model.specs.Image.{Format, image, given-net, net-of, records-of, trailer-of, load, load-checks, compose, compose-checks}
+use Rattle.model.specs.Claims.{Reads, LoadRefused, ComposeRefused, OneOf, FirstBroken, InOrder, numbers, call-refusals}
+use lib.ListN.{length, drop}
 use Rattle.model.specs.declared.Call.{Call}
 use Rattle.model.specs.declared.Call.the-variants.{Activate, Deactivate, Undo, Settle}
-use Rattle.model.specs.declared.Verdict.the-variants.{Refused}
+use Rattle.model.specs.declared.Verdict.{Verdict}
+use Rattle.model.specs.declared.Verdict.the-variants.{Granted, Refused}
 use Rattle.model.proofs.Checks.{one-of, refused-first, in-order}
 use Rattle.model.proofs.Effects.{Judged, outside, unfinished, unclear, completed, judged}
 
@@ -79,6 +84,48 @@ undo-refused s = go (s .board .opened)
     go : (es : List Entry) → (undo-from (s .board) es .answer .verdict ≡ Refused 13) ↔ (es ≡ [])
     go [] = (λ _. refl, λ _. refl)
     go (e ∷ es) = (λ p. let z : _≡_ {A = ℕ} 0 1 = cc in absurd (omega arith), λ p. let z : _≡_ {A = ℕ} 0 1 = cc in absurd (omega arith))
+
+-- reading a count
+pub reads : (s : State) (c : ℕ) → Reads s c
+unfolding reading
+reads s c =
+    let n = size (s .board .net) in
+    let by : Bool → Reading = λ b.
+    let v = first-refusal (refuse no-such-context b ∷ []) in
+    record { verdict = v; value = cond (is-granted v) (s .board .counts c) 0 } in
+    record { inside = λ h. ap by (lt-leb n c h); outside = λ h. ap by (le-leb n c h) }
+
+-- a refused load gives nothing, and refused composing changes nothing
+pub load-refused : (f : Format) (img : List ℕ) (k : ℕ) → load f img .verdict ≡ Refused k → LoadRefused (load f img)
+unfolding load
+load-refused f img k e =
+    record {
+      no-net = ap (λ (v : Verdict). cond (is-granted v) (net-of f img (trailer-of f img)) empty-net) e;
+      no-part = ap (λ (v : Verdict). cond (is-granted v) (records-of f img (trailer-of f img)) []) e;
+    }
+
+pub compose-refused : (f : Format) (caps bs out : List ℕ) (k : ℕ) → compose f caps bs out .verdict ≡ Refused k → ComposeRefused out (compose f caps bs out)
+unfolding compose
+compose-refused f caps bs out k e =
+    let img = image f (given-net f caps bs) in
+    record {
+      written-none = ap (λ (v : Verdict). cond (is-granted v) (length img) 0) e;
+      output-kept = ap (λ (v : Verdict). cond (is-granted v) (img ++ drop (length img) out) out) e;
+    }
+
+each-member : {P : ℕ → Type 0} {ks : List ℕ} → Each P ks → (k : ℕ) → List·Memᴰ k ks → P k
+each-member nil k m = absurd (List·Memᴰ·not-nil m)
+each-member {P} (cons p ps) k m = ⊎-elim (λ e. subst P (sym e) p) (λ n. each-member ps k n) (List·Memᴰ·cases-cons m)
+
+-- 0 stands for granted alone: no refusal of ours has it
+pub number-granted : (ks : List ℕ) → Each (λ k. 0 < k) ks → (v : Verdict) → OneOf ks v → (verdict-number v ≡ 0) ↔ (v ≡ Granted)
+number-granted ks above v o =
+    ⊎-elim (λ e. (λ _. e, λ _. ap verdict-number e))
+    (λ r.
+    let pos = each-member above (r .0) (r .1) in
+    let n = ap verdict-number (r .2) in
+    (λ z. absurd (omega arith), λ g. let y : verdict-number v ≡ 0 = ap verdict-number g in absurd (omega arith)))
+    o
 
 -- every call on the machine
 pub call-answers : (s : State) (c : Call) → OneOf (call-refusals c) (respond s c .answer .verdict)

@@ -79,6 +79,10 @@ module _ (net : Net) (m : Counts) (r : Request) where
             eleven = (λ p. absurd (other 10 11 v p (omega arith)), λ x. let l = x .0 in absurd (omega arith));
             twelve = (λ p. absurd (other 10 12 v p (omega arith)), λ x. let l = x .0 in absurd (omega arith));
             granted = (λ p. absurd (never p v), λ x. let l = x .0 in absurd (omega arith));
+            moved = λ p. absurd (never p v);
+            kept = λ k p. ap (λ (x : Effect). x .counts) e;
+            fired = λ l. absurd (omega arith);
+            unfired = λ l. ap (λ (x : Effect). x .answer .firings) e;
           }
       go (unfinished h u e) =
           let v = ap (λ (x : Effect). x .answer .verdict) e in
@@ -87,6 +91,10 @@ module _ (net : Net) (m : Counts) (r : Request) where
             eleven = (λ _. (h, u), λ _. v);
             twelve = (λ p. absurd (other 11 12 v p (omega arith)), λ x. absurd (clash (x .1) u));
             granted = (λ p. absurd (never p v), λ x. absurd (clash (x .1 .quiet) u));
+            moved = λ p. absurd (never p v);
+            kept = λ k p. ap (λ (x : Effect). x .counts) e;
+            fired = λ l. ap (λ (x : Effect). x .answer .firings) e;
+            unfired = λ l. absurd (omega arith);
           }
       go (unclear h q k e) =
           let v = ap (λ (x : Effect). x .answer .verdict) e in
@@ -95,6 +103,10 @@ module _ (net : Net) (m : Counts) (r : Request) where
             eleven = (λ p. absurd (other 12 11 v p (omega arith)), λ x. absurd (clash q (x .1)));
             twelve = (λ _. (h, q, k), λ _. v);
             granted = (λ p. absurd (never p v), λ x. absurd (not-both _ (x .1 .cleared) k));
+            moved = λ p. absurd (never p v);
+            kept = λ k p. ap (λ (x : Effect). x .counts) e;
+            fired = λ l. ap (λ (x : Effect). x .answer .firings) e;
+            unfired = λ l. absurd (omega arith);
           }
       go (completed h c e) =
           let v = ap (λ (x : Effect). x .answer .verdict) e in
@@ -103,6 +115,10 @@ module _ (net : Net) (m : Counts) (r : Request) where
             eleven = (λ p. absurd (never v p), λ x. absurd (clash (c .quiet) (x .1)));
             twelve = (λ p. absurd (never v p), λ x. absurd (not-both _ (c .cleared) (x .2)));
             granted = (λ _. (h, c), λ _. v);
+            moved = λ p. ap (λ (x : Effect). x .counts) e;
+            kept = λ k p. absurd (never v p);
+            fired = λ l. ap (λ (x : Effect). x .answer .firings) e;
+            unfired = λ l. absurd (omega arith);
           }
 
   -- a granted request's step, and the effect that it has

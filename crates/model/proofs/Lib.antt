@@ -9,6 +9,7 @@ pub mod Replay
 pub mod Rules
 pub mod Bounds
 pub mod Totals
+pub mod Lists
 pub mod Demand3
 pub mod Fields
 pub mod Masks

@@ -7,7 +7,7 @@ use mathlib.Core.Bool.{Bool, true, false, _&&_, not}
 use mathlib.Core.List.{List, [], _∷_, _++_, map}
 use lib.Dec.{eqb, T}
 use lib.ListN.{length, drop, set, replicate}
-use Rattle.model.specs.Sets.{bit, number, all-below, all, concat-map, range, equal-lists}
+use Rattle.model.specs.Sets.{bit, number, all-below, any, all, concat-map, range, equal-lists}
 use Rattle.model.specs.Relations.{Net, size, excludes, causes, implies, requires, same, has-zero, misfit, repeats-after, matches, related, excluded}
 use Rattle.model.specs.Transitions.{Role, activates, deactivates, forces, drops, Transition, asks-on, asks-off, act, deac, forced, drop-of, extra, context-transitions, extra-transitions, transitions-of, transitions}
 use Rattle.model.specs.Machine.{Request, Event, fresh, after, log, standing, extend-by, history, step-of, deactivation, initial-marking, concluded, effect, commit, make-request, undo-from, settle, reply, tally-after, respond, reading, board-at}
@@ -44,6 +44,8 @@ pub data Case : Type 0 where
   sizes : Net → (t to-relations to-records length : ℕ) → Case
   -- A net of at most 8 contexts and its records. Of each are given the priority and the first byte of each set; the others are 0.
   rows : Net → List (List ℕ) → Case
+  -- a set of these contexts in w bytes
+  in-bytes : (w : ℕ) → List ℕ → List ℕ → Case
   -- the last bytes of a net's image
   ends : Net → (from : ℕ) → List ℕ → Case
   -- reading a count in a net of n contexts
@@ -125,6 +127,9 @@ cases =
     ∷ leaves-history six-conditions (Activate 0 ∷ Activate 4 ∷ Activate 3 ∷ Deactivate 0 ∷ Undo ∷ Undo ∷ Settle ∷ Undo ∷ []) (0 ∷ [])
     -- 33 activations, of which 32 can be undone
     ∷ verdicts six-conditions (replicate 33 (Activate 5) ++ replicate 33 Undo) (replicate 65 Granted ++ (Refused 13 ∷ []))
+    -- a refused request keeps the open list, and refusal 10 counts
+    ∷ verdicts six-conditions (Activate 0 ∷ Deactivate 1 ∷ Activate 6 ∷ Undo ∷ []) (Granted ∷ Refused 12 ∷ Refused 10 ∷ Granted ∷ [])
+    ∷ totals six-conditions (Activate 0 ∷ Deactivate 1 ∷ Activate 6 ∷ Undo ∷ []) 1 2 1
     -- a ring of three implications at capacity 2: refused when all are full, as the ring of 16 is at 255
     ∷ run (record { caps = 2 ∷ 2 ∷ 2 ∷ []; rels = relation implies 0 1 ∷ relation implies 1 2 ∷ relation implies 2 0 ∷ [] }) (Activate 0 ∷ [])
     (line (Refused 12) 6 (0 ∷ 0 ∷ 0 ∷ []) ∷ [])
@@ -149,6 +154,22 @@ cases =
     ∷ (1 ∷ 0 ∷ 0 ∷ 32 ∷ 0 ∷ 0 ∷ 0 ∷ 32 ∷ 0 ∷ [])
     ∷ [])
     ∷ ends six-conditions 805 (31 ∷ 3 ∷ 16 ∷ 3 ∷ 6 ∷ 5 ∷ 16 ∷ 1 ∷ [])
+    -- what a required context requires or excludes does not pass on to the one that requires it
+    ∷ rows
+    (record { caps = 1 ∷ 1 ∷ 1 ∷ 1 ∷ []; rels = relation requires 0 1 ∷ relation requires 1 2 ∷ relation excludes 1 3 ∷ [] })
+    ((2 ∷ 2 ∷ 1 ∷ 0 ∷ 3 ∷ 0 ∷ 0 ∷ 0 ∷ 0 ∷ [])
+    ∷ (2 ∷ 1 ∷ 0 ∷ 1 ∷ 0 ∷ 0 ∷ 0 ∷ 0 ∷ 0 ∷ [])
+    ∷ (2 ∷ 4 ∷ 2 ∷ 0 ∷ 6 ∷ 0 ∷ 0 ∷ 8 ∷ 0 ∷ [])
+    ∷ (2 ∷ 2 ∷ 0 ∷ 2 ∷ 0 ∷ 0 ∷ 0 ∷ 0 ∷ 0 ∷ [])
+    ∷ (2 ∷ 0 ∷ 4 ∷ 0 ∷ 4 ∷ 0 ∷ 0 ∷ 0 ∷ 0 ∷ [])
+    ∷ (2 ∷ 4 ∷ 0 ∷ 4 ∷ 0 ∷ 0 ∷ 0 ∷ 0 ∷ 0 ∷ [])
+    ∷ (2 ∷ 0 ∷ 8 ∷ 0 ∷ 8 ∷ 0 ∷ 0 ∷ 2 ∷ 0 ∷ [])
+    ∷ (2 ∷ 8 ∷ 0 ∷ 8 ∷ 0 ∷ 0 ∷ 0 ∷ 0 ∷ 0 ∷ [])
+    ∷ (2 ∷ 1 ∷ 0 ∷ 0 ∷ 0 ∷ 0 ∷ 0 ∷ 2 ∷ 0 ∷ [])
+    ∷ (2 ∷ 2 ∷ 0 ∷ 0 ∷ 0 ∷ 0 ∷ 0 ∷ 4 ∷ 0 ∷ [])
+    ∷ [])
+    -- where a context's bit stands
+    ∷ in-bytes 6 (0 ∷ 9 ∷ 15 ∷ 47 ∷ []) (1 ∷ 130 ∷ 0 ∷ 0 ∷ 0 ∷ 128 ∷ [])
     -- reading a count: below n, and at n
     ∷ reads 6 5 3 Granted 3
     ∷ reads 6 6 3 (Refused 10) 0
@@ -181,12 +202,13 @@ cases =
     ∷ loads (image edition-1 (record { caps = 3 ∷ 3 ∷ []; rels = relation causes 0 1 ∷ relation causes 0 1 ∷ [] })) (Refused 7)
     ∷ loads (image edition-1 (record { caps = 3 ∷ 3 ∷ []; rels = relation excludes 0 1 ∷ relation excludes 1 0 ∷ [] })) (Refused 7)
     ∷ loads (image edition-1 (record { caps = 3 ∷ 3 ∷ []; rels = relation causes 0 1 ∷ relation causes 1 0 ∷ [] })) Granted
-    -- 9: a priority, an unused bit, t with as many records
+    -- 9: a priority, an unused bit, a wrong t with as many records as it says
     ∷ loads (set pair-image 5 1) (Refused 9)
     ∷ loads (set pair-image 6 128) (Refused 9)
     ∷ loads (pair-with 0 []) (Refused 9)
     ∷ loads (pair-with 6 (records edition-1 pair ++ replicate 49 0)) (Refused 9)
     ∷ loads (pair-with 5 (records edition-1 pair)) Granted
+    ∷ loads (image edition-1 six-conditions) Granted
     -- composing: 3 before 5 before 6 before 7 before 8
     ∷ composes [] [] 999 (Refused 3)
     ∷ composes (replicate 49 1) [] 9999 (Refused 3)
@@ -199,6 +221,14 @@ cases =
     ∷ composes (3 ∷ 3 ∷ []) (2 ∷ 0 ∷ 1 ∷ 2 ∷ 0 ∷ 1 ∷ []) 0 (Refused 7)
     ∷ composes (3 ∷ 3 ∷ []) (1 ∷ 0 ∷ 1 ∷ 1 ∷ 1 ∷ 0 ∷ []) 999 (Refused 7)
     ∷ composes (3 ∷ 3 ∷ []) (2 ∷ 0 ∷ 1 ∷ 2 ∷ 1 ∷ 0 ∷ []) 310 Granted
+    -- an end too large on either side; a repetition with another relation between; an exclusion and another kind on the same ends
+    ∷ composes (3 ∷ 3 ∷ []) (2 ∷ 2 ∷ 0 ∷ []) 0 (Refused 6)
+    ∷ composes (3 ∷ 3 ∷ []) (2 ∷ 0 ∷ 1 ∷ 2 ∷ 1 ∷ 0 ∷ 2 ∷ 0 ∷ 1 ∷ []) 0 (Refused 7)
+    ∷ composes (3 ∷ 3 ∷ []) (1 ∷ 0 ∷ 1 ∷ 2 ∷ 1 ∷ 0 ∷ []) 261 Granted
+    -- the largest n and r pass 3, and one relation more does not
+    ∷ composes (replicate 48 1) [] 0 (Refused 8)
+    ∷ composes (3 ∷ 3 ∷ []) (concat-map (λ i. 2 ∷ 0 ∷ 1 ∷ []) (range 0 96)) 0 (Refused 7)
+    ∷ composes (3 ∷ 3 ∷ []) (concat-map (λ i. 2 ∷ 0 ∷ 1 ∷ []) (range 0 97)) 0 (Refused 3)
     ∷ composes (7 ∷ []) [] 106 (Refused 8)
     ∷ composes (7 ∷ []) [] 107 Granted
     -- what composing leaves of an output: one longer than the image, one too short
@@ -221,11 +251,27 @@ cases =
     -- the lowest number, not the highest
     ∷ run (record { caps = 2 ∷ 3 ∷ []; rels = relation implies 1 0 ∷ relation requires 0 1 ∷ [] }) (Activate 1 ∷ Deactivate 1 ∷ [])
     (line Granted 2 (1 ∷ 1 ∷ []) ∷ line Granted 2 (0 ∷ 0 ∷ []) ∷ [])
+    ∷ run
+    (record { caps = 1 ∷ 1 ∷ 1 ∷ 1 ∷ []; rels = relation causes 0 1 ∷ relation causes 0 2 ∷ relation excludes 1 2 ∷ relation causes 1 3 ∷ [] })
+    (Activate 0 ∷ [])
+    (line (Refused 12) 3 (0 ∷ 0 ∷ 0 ∷ 0 ∷ []) ∷ [])
     -- the extra transitions in the order of the relations
     ∷ run (record { caps = 3 ∷ 2 ∷ 3 ∷ []; rels = relation implies 0 1 ∷ relation requires 2 1 ∷ relation implies 0 2 ∷ [] })
     (Activate 0 ∷ Deactivate 1 ∷ [])
     (line Granted 3 (1 ∷ 1 ∷ 1 ∷ []) ∷ line Granted 3 (0 ∷ 0 ∷ 0 ∷ []) ∷ [])
+    ∷ run (record { caps = 1 ∷ 1 ∷ 1 ∷ []; rels = relation requires 0 2 ∷ relation implies 1 2 ∷ relation implies 1 0 ∷ [] })
+    (Activate 1 ∷ Deactivate 2 ∷ [])
+    (line Granted 3 (1 ∷ 1 ∷ 1 ∷ []) ∷ line (Refused 12) 3 (1 ∷ 1 ∷ 1 ∷ []) ∷ [])
     -- a forced transition never asks off what inhibits it, that of a requirement neither
+    ∷ run (record { caps = 2 ∷ 1 ∷ []; rels = relation causes 1 0 ∷ relation implies 1 0 ∷ [] }) (Activate 1 ∷ Deactivate 0 ∷ [])
+    (line Granted 2 (1 ∷ 1 ∷ []) ∷ line Granted 2 (0 ∷ 0 ∷ []) ∷ [])
+    ∷ run (record { caps = 3 ∷ 2 ∷ []; rels = relation causes 1 0 ∷ relation requires 1 0 ∷ [] })
+    (Activate 0 ∷ Activate 1 ∷ Deactivate 0 ∷ Deactivate 0 ∷ [])
+    (line Granted 1 (1 ∷ 0 ∷ [])
+    ∷ line Granted 2 (2 ∷ 1 ∷ [])
+    ∷ line Granted 1 (1 ∷ 1 ∷ [])
+    ∷ line Granted 2 (0 ∷ 0 ∷ [])
+    ∷ [])
     ∷ run (record { caps = 3 ∷ 2 ∷ []; rels = relation requires 1 0 ∷ relation implies 1 0 ∷ [] })
     (Activate 0 ∷ Activate 1 ∷ Deactivate 0 ∷ Deactivate 0 ∷ [])
     (line Granted 1 (1 ∷ 0 ∷ [])
@@ -291,6 +337,7 @@ holds (sizes net t to-relations to-records k) =
     && eqb (trailer-of edition-1 img .to-records) to-records
     && eqb (length img) k
 holds (rows net rs) = equal-lists (records edition-1 net) (concat-map whole-record rs)
+holds (in-bytes w cs bs) = equal-lists (set-bytes w (λ c. any (eqb c) cs)) bs
 holds (ends net from bs) = equal-lists (drop from (image edition-1 net)) bs
 holds (reads n c count v x) =
     let r = reading n c count in

@@ -1,23 +1,26 @@
--- What the theorems say: the order of refusals, demand 3 on the machine, and the image. docs/CLAIMS.md has each theorem in a sentence.
--- The limits and refusals are written here as numbers once more, so that a claim can be read without the definitions' names.
+-- What the theorems say: refusals and their order, each request, demand 3 over a list of calls, and the image. docs/CLAIMS.md has each
+-- theorem in a sentence. Limits, and refusals in the claims about requests, are written as numbers once more: a definition that changed one
+-- no longer meets its claim. Demand 2 is the contracts of the code, which give these definitions' values; what is claimed of them is here.
 -- Assumes nothing.
-use Prim.Native.Nat.{ℕ, _+_, _*_, _^_, _<_, _≤_, min}
+use Prim.Native.Nat.{ℕ, _+_, _-_, _*_, _^_, _<_, _≤_, min}
 use mathlib.Core.Path.{_≡_}
 use mathlib.Core.Logic.{_⊎_, _↔_}
-use mathlib.Core.Bool.{Bool, true, false}
+use mathlib.Core.Bool.{Bool, true, false, cond}
 use mathlib.Core.Option.{none, some}
 use mathlib.Core.List.{List, [], _∷_, _++_, List·Memᴰ, reverse, map}
+use lib.Dec.{eqb}
 use lib.ListN.{length, drop, getD}
 use Rattle.model.specs.Sets.{Each, IsByte, any, count-passing}
 use Rattle.model.specs.Refusals
 use Rattle.model.specs.Refusals.{Check, refuse, first-refusal, is-granted}
-use Rattle.model.specs.Relations.{Net, size, relation-count, capacity, related, has-zero, misfit, repeats, excludes, implies, requires}
+use Rattle.model.specs.Relations.{Net, size, relation-count, capacity, empty-net, related, has-zero, misfit, repeats, excludes, implies, requires}
 use Rattle.model.specs.Transitions.{Transition}
 use Rattle.model.specs.Firing.{Marking, Outcome, next-of, clear}
-use Rattle.model.specs.Machine.{Request, Counts, Event, State, Tally, zeros, step-of, effect, begin, after, log, standing, requested, history, replayed-calls, requests, adds-granted, adds-refused, adds-undone}
+use Rattle.model.specs.Machine.{Request, Counts, Event, State, Tally, zeros, step-of, effect, without-firings, read-count, begin, after, log, standing, requested, history, replayed-calls, requests, adds-granted, adds-refused, adds-undone}
 use Rattle.model.specs.Image.{Format, Loaded, Composed, image, bad-sizes, relations-size, records-size}
 use Rattle.model.specs.declared.Call.{Call}
 use Rattle.model.specs.declared.Call.the-variants.{Activate, Deactivate, Undo, Settle}
+use Rattle.model.specs.declared.Answer.{Answer}
 use Rattle.model.specs.declared.Verdict.{Verdict}
 use Rattle.model.specs.declared.Verdict.the-variants.{Granted, Refused}
 
@@ -103,6 +106,12 @@ pub record Explained (net : Net) (m : Counts) (r : Request) : Type 0 where
       (effect net m r .answer .verdict ≡ Refused 12)
       ↔ ((r .context < size net) × Quiet net (step-of net m r) × (clear net (step-of net m r .marking) ≡ false))
   pub granted : (effect net m r .answer .verdict ≡ Granted) ↔ ((r .context < size net) × Completed net (step-of net m r))
+  -- a granted request leaves the counts of its step's end, a refused one those before it
+  pub moved : effect net m r .answer .verdict ≡ Granted → effect net m r .counts ≡ step-of net m r .marking .count
+  pub kept : (k : ℕ) → effect net m r .answer .verdict ≡ Refused k → effect net m r .counts ≡ m
+  -- the firings reported are those made
+  pub fired : r .context < size net → effect net m r .answer .firings ≡ length (step-of net m r .fired)
+  pub unfired : size net ≤ r .context → effect net m r .answer .firings ≡ 0
 
 -- ---- demand 3: what holds after every list of calls
 
@@ -132,6 +141,33 @@ abbrev pub Completes : Net → Event → Type 0
 Completes net e =
     Each (λ (r : Request). is-granted (e .answer .verdict) ≡ true → Completed net (step-of net (e .before) r)) (requested (e .call))
 
+-- the event of a request is what the request comes to at the counts before it: the answer, and the counts after
+pub record Made (net : Net) (e : Event) (r : Request) : Type 0 where
+  pub answer : e .answer ≡ effect net (e .before) r .answer
+  pub counts : e .counts ≡ effect net (e .before) r .counts
+
+-- how many requests are open after a call, where k were before it and it was granted or not
+abbrev pub open-after : ℕ → Call → Bool → ℕ
+open-after k c false = k
+open-after k (Activate c) true = min (k + 1) 32
+open-after k (Deactivate c) true = min (k + 1) 32
+open-after k Undo true = k - 1
+open-after k Settle true = 0
+
+-- Undo and settling answer as they must, where k requests were open before the events: undo meets 13 exactly where none is, and nothing
+-- fires.
+abbrev pub ends-open : ℕ → Call → Answer → Type 0
+ends-open k (Activate c) a = Unit {0}
+ends-open k (Deactivate c) a = Unit {0}
+ends-open k Undo a = a ≡ without-firings (cond (eqb k 0) (Refused 13) Granted)
+ends-open k Settle a = a ≡ without-firings Granted
+
+-- the events of a list with k open before it, which leaves l open
+pub data Opens : ℕ → List Event → ℕ → Type 0 where
+  none-made : {k : ℕ} → Opens k [] k
+  then-open : {k l : ℕ} {e : Event} {es : List Event} → ends-open k (e .call) (e .answer)
+      → Opens (open-after k (e .call) (is-granted (e .answer .verdict))) es l → Opens k (e ∷ es) l
+
 -- a total: how many events add to it, stopped at the limit
 abbrev pub total-of : (Call → Verdict → Bool) → List Event → ℕ
 total-of adds es = min (count-passing (λ (e : Event). adds (e .call) (e .answer .verdict)) es) 4294967295
@@ -149,7 +185,9 @@ ending net m₀ cs = after (begin net m₀) cs
 abbrev pub events : Net → Counts → List Call → List Event
 events net m₀ cs = log (begin net m₀) cs
 
--- Demand 3: one claim about a whole list of calls. A freshly loaded net starts at zeros; the claim is for any start that keeps the rules.
+-- Demand 3, for the calls of a list taken together. A freshly loaded net starts at zeros (theorem demand3-loaded); the theorem demand3 has
+-- it from any start that keeps the rules. Besides what document 01 asks, `listed` and `beyond` say where the history and the other numbers
+-- stand.
 pub record Demand3 (net : Net) (m₀ : Counts) (cs : List Call) : Type 0 where
   pub net-kept : ending net m₀ cs .board .net ≡ net
   -- replaying the history gives these very counts
@@ -160,7 +198,11 @@ pub record Demand3 (net : Net) (m₀ : Counts) (cs : List Call) : Type 0 where
   -- the history is what was settled and then what is open
   pub listed :
       history (events net m₀ cs) ≡ reverse (requests (ending net m₀ cs .board .opened) ++ ending net m₀ cs .board .settled)
+  -- which calls open, close and settle requests, and what undo is answered
+  pub opens : Opens 0 (events net m₀ cs) (length (ending net m₀ cs .board .opened))
   pub open-bound : length (ending net m₀ cs .board .opened) ≤ 32
+  -- every request of the list was answered, and moved, as a request does
+  pub made : Each (λ (e : Event). Each (Made net e) (requested (e .call))) (events net m₀ cs)
   pub rules : Rules net (ending net m₀ cs .board .counts)
   -- a number that is no context keeps its count
   pub beyond : (c : ℕ) → size net ≤ c → ending net m₀ cs .board .counts c ≡ m₀ c
@@ -173,6 +215,20 @@ pub record Demand3 (net : Net) (m₀ : Counts) (cs : List Call) : Type 0 where
 pub record Accepted (f : Format) (img : List ℕ) (l : Loaded) : Type 0 where
   pub is-image : image f (l .net) ≡ img
   pub valid : Valid f (l .net)
+
+-- what is known of a refused load, and of refused composing
+pub record LoadRefused (l : Loaded) : Type 0 where
+  pub no-net : l .net ≡ empty-net
+  pub no-part : l .part ≡ []
+
+pub record ComposeRefused (out : List ℕ) (c : Composed) : Type 0 where
+  pub written-none : c .written ≡ 0
+  pub output-kept : c .output ≡ out
+
+-- what is known of reading context c's count on the machine
+pub record Reads (s : State) (c : ℕ) : Type 0 where
+  pub inside : c < size (s .board .net) → read-count s c ≡ record { verdict = Granted; value = s .board .counts c }
+  pub outside : size (s .board .net) ≤ c → read-count s c ≡ record { verdict = Refused 10; value = 0 }
 
 -- what is known of granted composing of a net into an output with these bytes
 pub record Composes (f : Format) (net : Net) (out : List ℕ) (c : Composed) : Type 0 where

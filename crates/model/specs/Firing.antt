@@ -1,5 +1,5 @@
 -- Document 01, the end of "Transitions" and the step of "The machine": when a transition may fire, which one does, and what follows.
--- A transition that the field calls enabled is ready here; enabled also says that no ready one goes before it.
+-- Ready is what a net without priorities calls enabled; enabled here also says that no transition of a higher priority is ready.
 -- Assumes nothing.
 use Prim.Native.Nat.{ℕ, zero, suc, _+_, _-_}
 use mathlib.Core.Bool.{Bool, true, false, _&&_, not}
@@ -42,7 +42,7 @@ ready-at spare m t c =
 unfoldable pub ready : ℕ → Set → Marking → Transition → Bool
 ready n spare m t = all-below n (ready-at spare m t)
 
--- enabled: ready, and no transition of a higher priority number is ready
+-- enabled: ready, with nothing ready above it
 unfoldable pub enabled : ℕ → Set → Marking → List Transition → Transition → Bool
 enabled n spare m ts t = ready n spare m t && not (any (λ u. ltb (t .priority) (u .priority) && ready n spare m u) ts)
 
@@ -56,7 +56,7 @@ module _ {ℓ} {A : Type ℓ} where
 unfoldable pub next : ℕ → Set → Marking → List Transition → Option Transition
 next n spare m ts = first (enabled n spare m ts) ts
 
--- the three of a net at a marking
+-- ready, enabled and next in a net
 abbrev pub ready-of : Net → Marking → Transition → Bool
 ready-of net m t = ready (size net) (below-capacity net m) m t
 
@@ -99,7 +99,7 @@ stopped net m = record { quiet = is-none (next-of net m); fired = []; marking = 
 unfoldable pub after-firing : Transition → Outcome → Outcome
 after-firing t o = record { quiet = o .quiet; fired = t ∷ o .fired; marking = o .marking }
 
--- The step from a marking, with so many firings left to it: it stops where nothing is enabled, or where none is left.
+-- The step from a marking that may still fire so often: it stops where nothing is enabled, or where it may fire no more.
 unfoldable pub fire-until-quiet : Net → ℕ → Marking → Outcome
 fire-until-quiet net zero m = stopped net m
 fire-until-quiet net (suc left) m =

@@ -101,8 +101,8 @@ relation-bytes f r = write (relation-fields f) (r .kind ∷ r .a ∷ r .b ∷ []
 abbrev pub relation-from : List ℕ → Relation
 relation-from xs = record { kind = getD xs 0 0; a = getD xs 1 0; b = getD xs 2 0 }
 
--- What stands in a trailer, in this order. The distances count back from the trailer's own start, to the first relation byte and to the
--- first record byte. The padding has no byte in edition 1.
+-- What stands in a trailer, in this order. A distance is how far before the trailer the relations, or the records, begin. The padding has no
+-- byte in edition 1.
 pub record Trailer : Type 0 where
   pub to-relations : ℕ
   pub to-records : ℕ
@@ -215,7 +215,7 @@ compose-checks f caps bs room =
     ∷ net-checks (given-net f caps bs)
     ++ (refuse Refusals.short-output (ltb room (length (image f (given-net f caps bs)))) ∷ [])
 
--- What composing gives: a verdict, the number of bytes written, and what the output then holds.
+-- What composing gives: a verdict, the number of bytes written (0 where it is refused), and what the output then holds.
 pub record Composed : Type 0 where
   pub verdict : Verdict
   pub written : ℕ
@@ -256,7 +256,7 @@ net-of f img e =
       rels = read-relations f (e .r) (drop (trailer-start f img - e .to-relations) img);
     }
 
--- the record section found through the trailer
+-- the bytes that the trailer says are the records
 unfoldable pub records-of : Format → List ℕ → Trailer → List ℕ
 records-of f img e = take (records-size f (e .t)) (drop (trailer-start f img - e .to-records) img)
 

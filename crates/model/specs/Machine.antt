@@ -92,8 +92,8 @@ pub record Entry : Type 0 where
   pub request : Request
   pub before : Counts
 
--- The machine's state without its totals. Both lists have the newest request first: the paper's end of a list is its head here. No call
--- reads the settled list.
+-- The machine's state without its totals. Both lists have the newest request first: the paper's end of a list is its head here. The settled
+-- list is only written.
 pub record Board : Type 0 where
   pub net : Net
   pub counts : Counts
@@ -124,7 +124,7 @@ pub record Reply : Type 0 where
   pub answer : Answer
   pub board : Board
 
--- A granted request joins the open list with the counts from before it. Where the list was full, its oldest becomes settled.
+-- A granted request becomes the newest open one, kept with the counts from before it. Where the list was full, its oldest becomes settled.
 unfoldable pub commit : Board → Request → Counts → Board
 commit b r after =
     let entries : List Entry = record { request = r; before = b .counts } ∷ b .opened in
@@ -229,11 +229,15 @@ pub record Reading : Type 0 where
 abbrev pub reading-checks : ℕ → ℕ → List Check
 reading-checks n c = refuse no-such-context (leb n c) ∷ []
 
--- The reading of context c in a net of n contexts where c's count is this. A refused reading shows 0; nothing but n and the count goes in.
+-- The reading of context c in a net of n contexts where c's count is this; a refused one shows 0. It sees no other count and no list.
 unfoldable pub reading : ℕ → ℕ → ℕ → Reading
 reading n c count =
     let v = first-refusal (reading-checks n c) in
     record { verdict = v; value = cond (is-granted v) count 0 }
+
+-- the reading of context c on the machine
+abbrev pub read-count : State → ℕ → Reading
+read-count s c = reading (size (s .board .net)) c (s .board .counts c)
 
 -- a board with these counts and nothing open or settled
 unfoldable pub board-at : Net → Counts → Board
@@ -295,7 +299,7 @@ requested (Deactivate c) = deactivation c ∷ []
 requested Undo = []
 requested Settle = []
 
--- the history of a list of calls: the requests that stand, found from its calls and answers alone
+-- the history of a list of calls: the requests that stand after its events
 unfoldable pub history : List Event → List Request
 history es = concat-map (λ (e : Event). requested (e .call)) (standing [] es)
 

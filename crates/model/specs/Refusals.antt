@@ -77,8 +77,7 @@ pub record Check : Type 0 where
 abbrev pub refuse : ℕ → Bool → Check
 refuse k b = record { number = k; broken = b }
 
--- Each section's order of numbers is an order of checks. Every check sees the whole input, so a later number is met only by an input
--- that passes all the checks before it.
+-- The first broken check of a list refuses. Each check sees the whole input: one number is tested over all relations before the next is.
 abbrev pub first-refusal : List Check → Verdict
 first-refusal [] = Granted
 first-refusal (c ∷ cs) = elim (c .broken) [ true ↦ Refused (c .number) | false ↦ first-refusal cs ]

@@ -83,6 +83,6 @@ matches k a b r = eqb (r .kind) k && eqb (r .a) a && eqb (r .b) b
 unfoldable pub related : List Relation → ℕ → ℕ → Set
 related rels k a b = any (matches k a b) rels
 
--- the contexts that an exclusion pairs with a, whichever end a is
+-- the other ends of a's exclusions, whichever end a is
 unfoldable pub excluded : List Relation → ℕ → Set
 excluded rels a b = related rels excludes a b || related rels excludes b a

@@ -117,8 +117,8 @@ extra rels r =
 unfoldable pub context-transitions : List Relation → ℕ → List Transition
 context-transitions rels c = act rels c ∷ deac rels c ∷ []
 
--- The extra transitions in the order of their relations. Each gets its arcs from all of `rels`, from the relations behind its own too:
--- 001's Definition 5 has every transition in place before any arc that runs over all of them.
+-- The extra transitions in the order of their relations. Each gets its arcs from all of `rels`, from the relations behind its own too, as
+-- 001's Definition 5 asks.
 unfoldable pub extra-transitions : List Relation → List Transition
 extra-transitions rels = concat-map (extra rels) rels
 
