@@ -20,3 +20,43 @@ pub struct Answer {
     pub verdict: Verdict,
     pub firings: usize,
 }
+
+// The refusals by name; what each looks for is in specs/.
+// An image too short to hold a trailer.
+pub const SHORT_IMAGE: u8 = 1;
+
+// An edition that is not this format's.
+pub const OTHER_EDITION: u8 = 2;
+
+// n or r outside the limits, or relation bytes that are not whole triples.
+pub const WRONG_SIZES: u8 = 3;
+
+// A distance or the length that does not follow from the trailer.
+pub const WRONG_LAYOUT: u8 = 4;
+
+// A capacity of 0.
+pub const ZERO_CAPACITY: u8 = 5;
+
+// A relation of no kind, with an end that is no context, or with equal ends.
+pub const WRONG_RELATION: u8 = 6;
+
+// A relation that repeats an earlier one.
+pub const REPEATED_RELATION: u8 = 7;
+
+// An output too short for the image.
+pub const SHORT_OUTPUT: u8 = 8;
+
+// Records that are not those of the composed net.
+pub const WRONG_RECORDS: u8 = 9;
+
+// A context that the net does not have.
+pub const NO_SUCH_CONTEXT: u8 = 10;
+
+// A step that met its limit with a transition still enabled.
+pub const STEP_LIMIT_MET: u8 = 11;
+
+// A quiet step that left a token on a temporary place.
+pub const TOKENS_LEFT: u8 = 12;
+
+// An undo with nothing open.
+pub const NOTHING_OPEN: u8 = 13;

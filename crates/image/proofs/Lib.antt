@@ -1,0 +1,10 @@
+pub mod Puts
+pub mod Agrees
+pub mod Words
+pub mod Verdicts
+pub mod Given
+pub mod Answering
+pub mod Parts
+pub mod Loads
+pub mod Engines
+pub mod Roundtrip

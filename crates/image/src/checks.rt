@@ -1,0 +1,36 @@
+// The checks that composing and loading share: refusals 3, 5, 6 and 7.
+ghost use mathlib.Core.Path.{_≡_};
+ghost use Prim.Native.Nat.{ℕ, _≤_};
+ghost use lib.ListN.{length};
+ghost use Rattle.model.specs.Refusals.{first-refusal};
+ghost use Rattle.model.specs.Image.{edition-1, bad-sizes, net-checks, given-net};
+use crate::limits::MOST_CONTEXTS;
+use crate::limits::MOST_RELATIONS;
+use model::REPEATED_RELATION;
+use model::Verdict;
+use model::WRONG_RELATION;
+use model::ZERO_CAPACITY;
+
+// Refusal 3: edition 1 has no net of so many contexts or relations.
+pub fn wrong_sizes(n: usize, r: usize) -> bool
+    ensures { λ b. ⌜ b ≡ bad-sizes edition-1 n r ⌝ }
+{
+    (n == 0) | (MOST_CONTEXTS < n) | (MOST_RELATIONS < r)
+}
+
+// Refusals 5, 6 and 7 of a list. Callers have tested its sizes before.
+pub fn judge_list(capacities: &[u8], relations: &[u8]) -> Verdict
+    requires { ⌜ length (now capacities) ≤ 48 ⌝ }
+    ensures { λ v. ⌜ v ≡ first-refusal (net-checks (given-net edition-1 (now (capacities .entry)) (now (relations .entry)))) ⌝ }
+{
+    if net::has_zero(capacities) {
+        return Verdict::Refused(ZERO_CAPACITY);
+    }
+    if net::misfits(relations, capacities.len()) {
+        return Verdict::Refused(WRONG_RELATION);
+    }
+    if net::repeated(relations) {
+        return Verdict::Refused(REPEATED_RELATION);
+    }
+    Verdict::Granted
+}

@@ -1,0 +1,7 @@
+pub mod Worked
+pub mod Decimals
+pub mod Saying
+pub mod Spelling
+pub mod Keeping
+pub mod Contexts
+pub mod Storing

@@ -1,0 +1,20 @@
+-- The examples hold, by computing.
+-- Assumes nothing.
+use mathlib.Core.Path.{refl}
+use Rattle.model.specs.Sets.{Each, nil, cons}
+use Rattle.lines.specs.Decimals.{spelled, decimal}
+use Rattle.lines.specs.Calls.{call-text, askable, said}
+use Rattle.lines.specs.Answers.{context-text, contexts-text, answer-text}
+use Rattle.lines.specs.Examples.{Correct, printed, spoken, unspoken}
+
+pub printed-hold : Each Correct printed
+unfolding printed spelled decimal call-text context-text contexts-text answer-text
+printed-hold = cons refl (cons refl (cons refl (cons refl (cons refl (cons refl (cons refl (cons refl (cons refl nil))))))))
+
+pub spoken-hold : Each Correct spoken
+unfolding spoken spelled decimal call-text askable said
+spoken-hold = cons refl (cons refl (cons refl (cons refl (cons refl (cons refl nil)))))
+
+pub unspoken-hold : Each Correct unspoken
+unfolding unspoken spelled decimal call-text askable said
+unspoken-hold = cons refl (cons refl (cons refl (cons refl (cons refl (cons refl (cons refl (cons refl (cons refl (cons refl (cons refl (cons refl (cons refl (cons refl (cons refl (cons refl (cons refl nil))))))))))))))))

@@ -1,0 +1,7 @@
+pub mod Ascii
+pub mod Decimals
+pub mod Calls
+pub mod Answers
+pub mod Kept
+pub mod Claims
+pub mod Examples

@@ -1,0 +1,5 @@
+pub mod Reading
+pub mod Linking
+pub mod Repeats
+pub mod Growing
+pub mod Counting

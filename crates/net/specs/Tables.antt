@@ -1,0 +1,137 @@
+-- How the arrays of a composed net are read: entry i of each is a word that holds a set of transition i.
+-- Assumes nothing.
+use Prim.Native.Nat.{ℕ, _+_, _<_, _≤_}
+use mathlib.Core.Bool.{false}
+use mathlib.Core.Path.{_≡_}
+use mathlib.Core.List.{List, _++_}
+use lib.ListN.{length, getD, set}
+use Rattle.model.specs.Sets.{number, empty-set, any}
+use Rattle.model.specs.Relations.{misfit}
+use Rattle.model.specs.Transitions.{Transition, activates}
+use Rattle.net.specs.Reading.{relations-in}
+use Rattle.net.specs.declared.tables.Arcs.{Arcs}
+use Rattle.net.specs.declared.tables.Tables.{Tables}
+
+-- a word for each set of one transition
+pub record Holds (a : Arcs) (t : Transition) : Type 0 where
+  pub priority : a .priority ≡ t .priority
+  pub takesContext : a .takesContext ≡ number 64 (t .takesContext)
+  pub takesPr : a .takesPr ≡ number 64 (t .takesPr)
+  pub takesNot : a .takesNot ≡ number 64 (t .takesNot)
+  pub givesContext : a .givesContext ≡ number 64 (t .givesContext)
+  pub givesPr : a .givesPr ≡ number 64 (t .givesPr)
+  pub givesNot : a .givesNot ≡ number 64 (t .givesNot)
+  pub inhibContext : a .inhibContext ≡ number 64 (t .inhibContext)
+  pub inhibPr : a .inhibPr ≡ number 64 (t .inhibPr)
+
+-- the contents of the nine arrays
+pub record Columns : Type 0 where
+  pub priority : List ℕ
+  pub takesContext : List ℕ
+  pub takesPr : List ℕ
+  pub takesNot : List ℕ
+  pub givesContext : List ℕ
+  pub givesPr : List ℕ
+  pub givesNot : List ℕ
+  pub inhibContext : List ℕ
+  pub inhibPr : List ℕ
+
+-- the same of nine lists
+abbrev pub columns : (priority takesContext takesPr takesNot givesContext givesPr givesNot inhibContext inhibPr : List ℕ) → Columns
+columns p tc tp tn gc gp gn ic ip =
+    record {
+      priority = p;
+      takesContext = tc;
+      takesPr = tp;
+      takesNot = tn;
+      givesContext = gc;
+      givesPr = gp;
+      givesNot = gn;
+      inhibContext = ic;
+      inhibPr = ip;
+    }
+
+-- those of a whole net
+abbrev pub columns-in : Tables → Columns
+columns-in m =
+    columns (m .priority) (m .takesContext) (m .takesPr) (m .takesNot) (m .givesContext) (m .givesPr) (m .givesNot) (m .inhibContext) (m .inhibPr)
+
+-- entry i of each
+abbrev pub row : Columns → ℕ → Arcs
+row cols i =
+    record {
+      priority = getD (cols .priority) i 0;
+      takesContext = getD (cols .takesContext) i 0;
+      takesPr = getD (cols .takesPr) i 0;
+      takesNot = getD (cols .takesNot) i 0;
+      givesContext = getD (cols .givesContext) i 0;
+      givesPr = getD (cols .givesPr) i 0;
+      givesNot = getD (cols .givesNot) i 0;
+      inhibContext = getD (cols .inhibContext) i 0;
+      inhibPr = getD (cols .inhibPr) i 0;
+    }
+
+-- a transition without arcs, for the numbers that a net does not have
+abbrev pub blank : Transition
+blank =
+    record {
+      role = activates;
+      priority = 0;
+      takesContext = empty-set;
+      takesPr = empty-set;
+      takesNot = empty-set;
+      givesContext = empty-set;
+      givesPr = empty-set;
+      givesNot = empty-set;
+      inhibContext = empty-set;
+      inhibPr = empty-set;
+    }
+
+-- the arrays hold these transitions, t of them, from entry 0 on
+pub record Table (cols : Columns) (t : ℕ) (ts : List Transition) : Type 0 where
+  pub count : t ≡ length ts
+  pub at : (i : ℕ) → i < t → Holds (row cols i) (getD ts i blank)
+
+-- the nine arrays have their 192 entries
+pub record Sized (cols : Columns) : Type 0 where
+  pub priority : length (cols .priority) ≡ 192
+  pub takesContext : length (cols .takesContext) ≡ 192
+  pub takesPr : length (cols .takesPr) ≡ 192
+  pub takesNot : length (cols .takesNot) ≡ 192
+  pub givesContext : length (cols .givesContext) ≡ 192
+  pub givesPr : length (cols .givesPr) ≡ 192
+  pub givesNot : length (cols .givesNot) ≡ 192
+  pub inhibContext : length (cols .inhibContext) ≡ 192
+  pub inhibPr : length (cols .inhibPr) ≡ 192
+
+-- the arrays with the words of a at entry t
+abbrev pub stored : Columns → ℕ → Arcs → Columns
+stored cols t a =
+    record {
+      priority = set (cols .priority) t (a .priority);
+      takesContext = set (cols .takesContext) t (a .takesContext);
+      takesPr = set (cols .takesPr) t (a .takesPr);
+      takesNot = set (cols .takesNot) t (a .takesNot);
+      givesContext = set (cols .givesContext) t (a .givesContext);
+      givesPr = set (cols .givesPr) t (a .givesPr);
+      givesNot = set (cols .givesNot) t (a .givesNot);
+      inhibContext = set (cols .inhibContext) t (a .inhibContext);
+      inhibPr = set (cols .inhibPr) t (a .inhibPr);
+    }
+
+-- more transitions join those of the arrays, from entry t on, which makes u of them
+pub record Grown (before : Columns) (t : ℕ) (after : Columns) (u : ℕ) (more : List Transition) : Type 0 where
+  pub sized : Sized before → Sized after
+  pub count : u ≡ t + length more
+  pub table : Sized before → (ts : List Transition) → Table before t ts → Table after u (ts ++ more)
+
+-- n contexts and the relations of these bytes are within the limits of a net, and the relations passed check 6
+pub record Composable (n : ℕ) (bs : List ℕ) : Type 0 where
+  pub few : n ≤ 48
+  pub short : length bs ≤ 288
+  pub fits : any (misfit n) (relations-in bs) ≡ false
+
+-- the arrays hold t transitions, these, and have kept their sizes
+pub record Filled (cols : Columns) (t : ℕ) (ts : List Transition) : Type 0 where
+  pub sized : Sized cols
+  pub table : Table cols t ts

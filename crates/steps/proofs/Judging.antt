@@ -1,0 +1,237 @@
+-- The marking in which a request's step begins, and what its end says.
+-- Assumes nothing.
+use Prim.Native.Nat.{ℕ, zero, suc, _+_, _≤_, _<_}
+use mathlib.Core.Bool.{Bool, true, false, cond, _&&_, not}
+use mathlib.Core.Path.{_≡_, refl, sym, ap, ap₂, subst, _∙_}
+use mathlib.Core.List.{List, [], _∷_}
+use native.Mathlib.Decide.{ℕ-discrete, decLt}
+use native.Mathlib.Omega.{arith}
+use borrow.Author.Tests.{lt-ltb, le-ltb, ltb-false, lt-leb, eq-eqb, ne-eqb, eqb-true}
+use lib.Dec.{eqb, ltb, leb}
+use lib.ListN.{length, getD, set, replicate, length-replicate}
+use lib.Seq.{getD-set-same, getD-set-other}
+use Rattle.sets.specs.Sets.{upto}
+use Rattle.sets.proofs.Laws.{same-bool, contained, zero-holds, number-empty}
+use Rattle.model.specs.Sets.{Set, singleton, empty-set, bit, number, all-below}
+use Rattle.model.specs.Refusals.{refuse, first-refusal, step-limit-met, tokens-left}
+use Rattle.model.specs.Relations.{Net, size}
+use Rattle.model.specs.Firing.{Marking, Outcome, holds-token, is-empty, clear, fire-until-quiet, step-limit}
+use Rattle.model.specs.Machine.{Request, Counts, Effect, zeros, initial-marking, step-of, concluded, effect, without-firings}
+use Rattle.model.specs.Claims.{at-rest}
+use Rattle.model.specs.declared.Verdict.{Verdict}
+use Rattle.model.specs.declared.Verdict.the-variants.{Granted, Refused}
+use Rattle.model.proofs.Masks.{number-cong}
+use Rattle.model.proofs.Tests.{and-right, and-both, and-false, below-at, below-make}
+use Rattle.model.proofs.Effects.{Judged, outside, unfinished, unclear, completed, judged}
+use Rattle.net.specs.Tables.{Columns}
+use Rattle.steps.specs.Markings.{counts-of, marking, below, Shows, AtMost}
+use Rattle.steps.specs.Steps.{Describes, Starts, Outcomes, Ends, Judges}
+use Rattle.steps.specs.declared.Marked.{Marked}
+use Rattle.steps.specs.declared.step.Stepped.{Stepped}
+use Rattle.steps.proofs.Renewal.{and-none}
+use Rattle.steps.proofs.Readiness.{all-and}
+
+bit-held : (b : Bool) → ltb 0 (bit b) ≡ b
+bit-held true = refl
+bit-held false = refl
+
+-- the words of a request's token, and of a kind of places where there is none
+module _ (n c : ℕ) {r : ℕ} {b : Bool} where
+  token-shown : c < n → b ≡ true → r ≡ number 64 (singleton c) → r ≡ number 64 (upto n (holds-token (λ x. bit (b && singleton c x))))
+  token-shown h t e =
+      e
+      ∙ number-cong 64 (singleton c) (upto n (holds-token (λ x. bit (b && singleton c x))))
+      (λ j l. sym (ap (λ (x : Bool). ltb j n && ltb 0 (bit (x && eqb j c))) t ∙ ap (λ (x : Bool). ltb j n && x) (bit-held (eqb j c)) ∙ inside j))
+    where
+      inside : (j : ℕ) → (ltb j n && eqb j c) ≡ eqb j c
+      inside j =
+          same-bool (ltb j n && eqb j c) (eqb j c) (and-right (ltb j n) (eqb j c))
+          (λ q. and-both (let k = eqb-true j c q in lt-ltb j n (omega arith)) q)
+
+  none-shown : b ≡ false → r ≡ number 64 (upto n (holds-token zeros)) → r ≡ number 64 (upto n (holds-token (λ x. bit (b && singleton c x))))
+  none-shown t e =
+      e
+      ∙ number-cong 64 (upto n (holds-token zeros)) (upto n (holds-token (λ x. bit (b && singleton c x))))
+      (λ j l. sym (ap (λ (x : Bool). ltb j n && ltb 0 (bit (x && eqb j c))) t))
+
+-- the words of counts at rest, with the token
+module _ (n c : ℕ) (spare : Set) (m : Counts) (s : Marked) (h : c < n) (sh : Shows n spare (at-rest m) s) (token : ℕ) (e : token ≡ number 64 (singleton c)) {on : Bool} where
+  pub asks-on : on ≡ true
+      → Shows n spare (initial-marking m (record { on = on; context = c })) (record { context = s .context; pr = token; prNot = s .prNot; spare = s .spare })
+  unfolding initial-marking
+  asks-on t =
+      record {
+        context = sh .context;
+        pr = token-shown n c {b = on} h t e;
+        prNot = none-shown n c {b = not on} (ap not t) (sh .prNot);
+        spare = sh .spare;
+      }
+
+  pub asks-off : on ≡ false
+      → Shows n spare (initial-marking m (record { on = on; context = c })) (record { context = s .context; pr = s .pr; prNot = token; spare = s .spare })
+  unfolding initial-marking
+  asks-off t =
+      record {
+        context = sh .context;
+        pr = none-shown n c {b = on} t (sh .pr);
+        prNot = token-shown n c {b = not on} h (ap not t) e;
+        spare = sh .spare;
+      }
+
+-- one token among 96 empty places
+module _ (p : ℕ) (h : p < 96) where
+  abbrev one : List ℕ
+  one = set (replicate 96 0) p 1
+
+  one-token : (i : ℕ) → getD one i 0 ≡ bit (eqb i p)
+  one-token i = go (ℕ-discrete i p)
+    where
+      empty : (k j : ℕ) → _≡_ {A = ℕ} (getD (replicate k 0) j 0) 0
+      empty zero j = refl
+      empty (suc k) zero = refl
+      empty (suc k) (suc j) = empty k j
+
+      go : Dec (i ≡ p) → getD one i 0 ≡ bit (eqb i p)
+      go (yes e) =
+          ap (λ (x : ℕ). getD one x 0) e
+          ∙ getD-set-same (replicate 96 0) p 1 0 (omega (arith, length-replicate {A = ℕ} 96 0)) ∙ sym (ap bit (eq-eqb i p e))
+      go (no e) = getD-set-other (replicate 96 0) p i 1 0 e ∙ empty 96 i ∙ sym (ap bit (ne-eqb i p e))
+
+module _ (on : Bool) (c : ℕ) (h : c < 48) (counts : List ℕ) where
+  abbrev asked : Marking
+  asked = initial-marking (counts-of counts) (record { on = on; context = c })
+
+  -- outside the places of Pr there is no token of it
+  pr-by : (l : List ℕ) → ((x : ℕ) → x < 48 → getD l x 0 ≡ bit (on && singleton c x)) → (x : ℕ) → Dec (x < 48) → cond (ltb x 48) (getD l x 0) 0 ≡ bit (on && singleton c x)
+  pr-by l e x (yes k) = ap (λ (b : Bool). cond b (getD l x 0) 0) (lt-ltb x 48 k) ∙ e x k
+  pr-by l e x (no k) =
+      ap (λ (b : Bool). cond b (getD l x 0) 0) (le-ltb x 48 (omega arith))
+      ∙ sym (ap (λ (b : Bool). bit (on && b)) (ne-eqb x c (λ q. omega arith)) ∙ ap bit (and-none on))
+
+  pub token-on : on ≡ true → marking counts (one c (omega arith)) ≡ asked
+  unfolding initial-marking
+  token-on t = λ i. record { count = counts-of counts; pr = λ x. pr-by (one c (omega arith)) pr-is x (decLt x 48) i; prNot = λ x. not-is x i }
+    where
+      pr-is : (x : ℕ) → x < 48 → getD (one c (omega arith)) x 0 ≡ bit (on && singleton c x)
+      pr-is x k = one-token c (omega arith) x ∙ ap (λ (b : Bool). bit (b && eqb x c)) (sym t)
+
+      not-is : (x : ℕ) → getD (one c (omega arith)) (48 + x) 0 ≡ bit (not on && singleton c x)
+      not-is x =
+          one-token c (omega arith) (48 + x) ∙ ap bit (ne-eqb (48 + x) c (λ q. omega arith))
+          ∙ ap (λ (b : Bool). bit (not b && eqb x c)) (sym t)
+
+  pub token-off : on ≡ false → marking counts (one (48 + c) (omega arith)) ≡ asked
+  unfolding initial-marking
+  token-off t = λ i. record { count = counts-of counts; pr = λ x. pr-by (one (48 + c) (omega arith)) pr-is x (decLt x 48) i; prNot = λ x. not-is x i }
+    where
+      pr-is : (x : ℕ) → x < 48 → getD (one (48 + c) (omega arith)) x 0 ≡ bit (on && singleton c x)
+      pr-is x k =
+          one-token (48 + c) (omega arith) x ∙ ap bit (ne-eqb x (48 + c) (λ q. omega arith))
+          ∙ ap (λ (b : Bool). bit (b && eqb x c)) (sym t)
+
+      same : (x : ℕ) → Dec (x ≡ c) → eqb (48 + x) (48 + c) ≡ eqb x c
+      same x (yes q) = eq-eqb (48 + x) (48 + c) (ap (λ (z : ℕ). 48 + z) q) ∙ sym (eq-eqb x c q)
+      same x (no q) = ne-eqb (48 + x) (48 + c) (λ z. q (omega arith)) ∙ sym (ne-eqb x c q)
+
+      not-is : (x : ℕ) → getD (one (48 + c) (omega arith)) (48 + x) 0 ≡ bit (not on && singleton c x)
+      not-is x =
+          one-token (48 + c) (omega arith) (48 + x) ∙ ap bit (same x (ℕ-discrete x c))
+          ∙ ap (λ (b : Bool). bit (not b && eqb x c)) (sym t)
+
+bit-most : (b : Bool) → bit b ≤ 1
+bit-most true = omega arith
+bit-most false = omega arith
+
+one-most : (m : Counts) (r : Request) → AtMost 1 (initial-marking m r)
+unfolding initial-marking
+one-most m r = record { pr = λ c. bit-most (r .on && singleton (r .context) c); prNot = λ c. bit-most (not (r .on) && singleton (r .context) c) }
+
+-- the arrays and words in which the step of a request begins
+module _ {n t : ℕ} {capacities counts temps : List ℕ} {s : Marked} (r : Request) where
+  pub starts : n ≤ 48 → t ≤ 192 → length counts ≡ 48 → length temps ≡ 96 → marking counts temps ≡ initial-marking (counts-of counts) r
+      → Shows n (below capacities counts) (initial-marking (counts-of counts) r) s → Starts n t capacities counts temps s
+  starts few short lc lt e sh =
+      record {
+        few = short;
+        stands = record { few = few; counts-size = lc; temps-size = lt; shows = subst (λ (m : Marking). Shows n (below capacities counts) m s) (sym e) sh };
+        low = subst (AtMost 1) (sym e) (one-most (counts-of counts) r);
+      }
+
+-- a word of places of one kind is 0 where none of them holds a token
+empty-word : (n : ℕ) → n ≤ 64 → (f : ℕ → ℕ) {w : ℕ} → w ≡ number 64 (upto n (holds-token f)) → eqb w 0 ≡ all-below n (is-empty f)
+empty-word n few f {w} e =
+    same-bool (eqb w 0) (all-below n (is-empty f))
+    (λ q. below-make n (is-empty f) (λ j l. no-token (f j)
+    (and-false (ltb j n) (ltb 0 (f j)) (sym (contained 64 (upto n (holds-token f)) e j (omega arith)) ∙ contained 64 empty-set (eqb-true w 0 q ∙ zero-holds 64) j (omega arith)) (lt-ltb j n l))))
+    (λ q. eq-eqb w 0 (e ∙ number-cong 64 (upto n (holds-token f)) empty-set (λ j l. none j (decLt j n) q) ∙ number-empty 64))
+  where
+    no-token : (x : ℕ) → ltb 0 x ≡ false → eqb x 0 ≡ true
+    no-token x q = let k = ltb-false 0 x q in eq-eqb x 0 (omega arith)
+
+    none : (j : ℕ) → Dec (j < n) → all-below n (is-empty f) ≡ true → (ltb j n && ltb 0 (f j)) ≡ false
+    none j (yes h) q = let k = eqb-true (f j) 0 (below-at n (is-empty f) q j h) in ap (λ (x : Bool). ltb j n && x) (le-ltb 0 (f j) (omega arith)) ∙ and-none (ltb j n)
+    none j (no h) q = ap (λ (x : Bool). x && ltb 0 (f j)) (le-ltb j n (omega arith))
+
+clear-is : (net : Net) (n : ℕ) → n ≤ 48 → size net ≡ n → (spare : Set) (m : Marking) (s : Marked) → Shows n spare m s → (eqb (s .pr) 0 && eqb (s .prNot) 0) ≡ clear net m
+unfolding clear
+clear-is net n few e spare m s sh =
+    ap₂ (λ (x y : Bool). x && y) (empty-word n (omega arith) (m .pr) (sh .pr)) (empty-word n (omega arith) (m .prNot) (sh .prNot))
+    ∙ all-and n (is-empty (m .pr)) (is-empty (m .prNot))
+    ∙ ap (λ (k : ℕ). all-below k (λ c. is-empty (m .pr) c && is-empty (m .prNot) c)) (sym e)
+
+-- a request outside the net
+pub judges-outside : (net : Net) (counts : List ℕ) (r : Request) → size net ≤ r .context
+    → Judges (record { verdict = Refused 10; firings = 0 }) counts (effect net (counts-of counts) r)
+judges-outside net counts r h = go (judged net (counts-of counts) r)
+  where
+    go : Judged net (counts-of counts) r → Judges (record { verdict = Refused 10; firings = 0 }) counts (effect net (counts-of counts) r)
+    go (outside l e) = subst (Judges (record { verdict = Refused 10; firings = 0 }) counts) (sym e) (record { answer = refl; counts = refl })
+    go (unfinished l u e) = absurd (omega arith)
+    go (unclear l q k e) = absurd (omega arith)
+    go (completed l q e) = absurd (omega arith)
+
+-- the verdict, by the two tests when the step has ended
+abbrev pub verdict-by : (quiet clear : Bool) → Verdict
+verdict-by quiet clear = first-refusal (refuse step-limit-met (not quiet) ∷ refuse tokens-left (not clear) ∷ [])
+
+-- a request within it: the step's end, and the words that it is told from
+module _ {net : Net} {n t : ℕ} {cols : Columns} {capacities counts temps counts′ temps′ : List ℕ} {e : Stepped} (r : Request) (h : r .context < n) (d : Describes net n t cols capacities)
+    (token : marking counts temps ≡ initial-marking (counts-of counts) r) (end : Ends n t cols capacities counts temps counts′ temps′ e) where
+  abbrev o : Outcome
+  o = step-of net (counts-of counts) r
+
+  ended : Outcomes e (marking counts′ temps′) o
+  ended = subst (λ (m : Marking). Outcomes e (marking counts′ temps′) (fire-until-quiet net step-limit m)) token (end .outcome net d)
+
+  verdict-is : verdict-by (e .quiet) (eqb (e .marked .pr) 0 && eqb (e .marked .prNot) 0) ≡ verdict-by (o .quiet) (clear net (o .marking))
+  verdict-is =
+      ap₂ verdict-by (ended .quiet)
+      (clear-is net n (end .stands .few) (d .contexts) (below capacities counts′) (marking counts′ temps′) (e .marked) (end .stands .shows) ∙ ap (clear net) (ended .marking))
+
+  effect-is : effect net (counts-of counts) r ≡ concluded (counts-of counts) o (verdict-by (o .quiet) (clear net (o .marking)))
+  unfolding effect
+  effect-is =
+      let b : leb (size net) (r .context) ≡ false = lt-leb (size net) (r .context) (omega (arith, d .contexts)) in
+      ap (λ (x : Bool).
+      elim (elim x as (λ _. Verdict) [ true ↦ Refused 10 | false ↦ Granted ]) as (λ _. Effect) [
+        | Granted ↦ concluded (counts-of counts) (step-of net (counts-of counts) r) (verdict-by (step-of net (counts-of counts) r .quiet) (clear net (step-of net (counts-of counts) r .marking)))
+        | Refused j ↦ record { answer = without-firings (Refused j); counts = counts-of counts }
+      ]) b
+
+  -- the effect, where this is the verdict
+  effect-with : (v : Verdict) → v ≡ verdict-by (e .quiet) (eqb (e .marked .pr) 0 && eqb (e .marked .prNot) 0) → effect net (counts-of counts) r ≡ concluded (counts-of counts) o v
+  effect-with v q = effect-is ∙ ap (concluded (counts-of counts) o) (sym (q ∙ verdict-is))
+
+  pub judges-granted : Granted ≡ verdict-by (e .quiet) (eqb (e .marked .pr) 0 && eqb (e .marked .prNot) 0)
+      → Judges (record { verdict = Granted; firings = e .firings }) counts′ (effect net (counts-of counts) r)
+  unfolding concluded
+  judges-granted q =
+      subst (Judges (record { verdict = Granted; firings = e .firings }) counts′) (sym (effect-with Granted q))
+      (record { answer = ap (λ (k : ℕ). record { verdict = Granted; firings = k }) (ended .firings); counts = ap (λ (m : Marking). m .count) (ended .marking) })
+
+  pub judges-refused : {k : ℕ} → Refused k ≡ verdict-by (e .quiet) (eqb (e .marked .pr) 0 && eqb (e .marked .prNot) 0)
+      → Judges (record { verdict = Refused k; firings = e .firings }) counts (effect net (counts-of counts) r)
+  unfolding concluded
+  judges-refused {k} q =
+      subst (Judges (record { verdict = Refused k; firings = e .firings }) counts) (sym (effect-with (Refused k) q))
+      (record { answer = ap (λ (j : ℕ). record { verdict = Refused k; firings = j }) (ended .firings); counts = refl })

@@ -1,0 +1,8 @@
+pub mod Renewal
+pub mod Finding
+pub mod Readiness
+pub mod Choosing
+pub mod Moving
+pub mod Firings
+pub mod Running
+pub mod Judging

@@ -1,0 +1,163 @@
+-- A step on the arrays, one firing at a time.
+-- Assumes nothing.
+use Prim.Native.Nat.{ℕ, _+_, _-_, _≤_, _<_}
+use mathlib.Core.Bool.{Bool, true, false, _&&_}
+use mathlib.Core.Path.{_≡_, sym, ap, subst, _∙_}
+use mathlib.Core.List.{List}
+use native.Mathlib.Decide.{decLt}
+use native.Mathlib.Numerals.{add-one}
+use native.Mathlib.Omega.{arith}
+use borrow.Author.Tests.{lt-ltb, le-ltb}
+use lib.Dec.{ltb}
+use lib.ListN.{getD}
+use Rattle.sets.specs.Sets.{members, upto}
+use Rattle.sets.proofs.Laws.{contained}
+use Rattle.model.specs.Sets.{Set, bit, number}
+use Rattle.model.specs.Relations.{Net, size, capacity}
+use Rattle.model.specs.Transitions.{Transition, transitions}
+use Rattle.model.specs.Firing.{Marking, below-capacity, fire, fire-until-quiet, step-limit}
+use Rattle.model.proofs.Masks.{number-cong}
+use Rattle.model.proofs.Tests.{each-getD}
+use Rattle.model.proofs.Bounds.{Below, Bounded, bounded, unused}
+use Rattle.model.proofs.Loops
+use Rattle.model.proofs.Loops.{start, more, loop-quiet, loop-stopped}
+use Rattle.net.specs.Tables.{Columns, Holds, row, blank}
+use Rattle.net.specs.declared.tables.Arcs.{Arcs}
+use Rattle.steps.specs.Markings.{marking, below, Shows, Stands, AtMost}
+use Rattle.steps.specs.Walks.{passes, ready-row, Passing, Fires, Chooses}
+use Rattle.steps.specs.Moves.{reading, Firable, Fired}
+use Rattle.steps.specs.Steps.{Describes, Starts, Outcomes, Ends}
+use Rattle.steps.specs.declared.Marked.{Marked}
+use Rattle.steps.specs.declared.Found.{Found}
+use Rattle.steps.specs.declared.Found.the-variants.{At, Nothing}
+
+-- a word of a transition's set holds it, among n contexts and beyond
+set-is : (n : ℕ) → n ≤ 48 → (f : Set) → Below n f → {a : ℕ} → a ≡ number 64 f → (j : ℕ) → upto n (members a) j ≡ f j
+set-is n few f low {a} e j = go (decLt j n)
+  where
+    go : Dec (j < n) → upto n (members a) j ≡ f j
+    go (yes h) = ap (λ (b : Bool). b && members a j) (lt-ltb j n h) ∙ contained 64 f e j (omega arith)
+    go (no h) = ap (λ (b : Bool). b && members a j) (le-ltb j n (omega arith)) ∙ sym (unused n f low j (omega arith))
+
+-- so the transition that the words hold fires as the net's does
+reading-fires : (n : ℕ) → n ≤ 48 → (a : Arcs) (t : Transition) → Holds a t → Bounded n t → (m : Marking) → fire (reading n a) m ≡ fire t m
+unfolding reading fire
+reading-fires n few a t h b m = λ i.
+    record {
+      count = λ c. m .count c - bit (set-is n few (t .takesContext) (b .takesContext) (h .takesContext) c i) + bit (set-is n few (t .givesContext) (b .givesContext) (h .givesContext) c i);
+      pr = λ c. m .pr c - bit (set-is n few (t .takesPr) (b .takesPr) (h .takesPr) c i) + bit (set-is n few (t .givesPr) (b .givesPr) (h .givesPr) c i);
+      prNot = λ c. m .prNot c - bit (set-is n few (t .takesNot) (b .takesNot) (h .takesNot) c i) + bit (set-is n few (t .givesNot) (b .givesNot) (h .givesNot) c i);
+    }
+
+-- a firing puts at most one token more on a temporary place
+one-more : (x k : ℕ) (t g : Bool) → x ≤ k → x - bit t + bit g ≤ k + 1
+one-more x k t true h = omega arith
+one-more x k t false h = omega arith
+
+fire-low : (k : ℕ) (t : Transition) (m : Marking) → AtMost k m → AtMost (k + 1) (fire t m)
+unfolding fire
+fire-low k t m l =
+    record {
+      pr = λ c. one-more (m .pr c) k (t .takesPr c) (t .givesPr c) (l .pr c);
+      prNot = λ c. one-more (m .prNot c) k (t .takesNot c) (t .givesNot c) (l .prNot c);
+    }
+
+-- the step so far
+pub record Going (n t : ℕ) (cols : Columns) (capacities counts₀ temps₀ counts temps : List ℕ) (s : Marked) (firings : ℕ) : Type 0 where
+  pub few : firings ≤ 4096
+  pub stands : Stands n capacities counts temps s
+  pub low : AtMost (firings + 1) (marking counts temps)
+  pub so-far : (net : Net) → Describes net n t cols capacities → Loops.Fired net (marking counts₀ temps₀) firings (marking counts temps)
+
+module _ {n t : ℕ} {cols : Columns} {capacities counts₀ temps₀ : List ℕ} where
+  pub going-start : {s : Marked} → Starts n t capacities counts₀ temps₀ s → Going n t cols capacities counts₀ temps₀ counts₀ temps₀ s 0
+  going-start b = record { few = omega arith; stands = b .stands; low = b .low; so-far = λ net d. start }
+
+  module _ {counts temps : List ℕ} {s : Marked} {firings : ℕ} (g : Going n t cols capacities counts₀ temps₀ counts temps s firings) where
+    -- a net's own capacities are those of the array
+    shows-net : (net : Net) → Describes net n t cols capacities → Shows n (below-capacity net (marking counts temps)) (marking counts temps) s
+    unfolding below-capacity
+    shows-net net d =
+        let sh = g .stands .shows in
+        record {
+          context = sh .context;
+          pr = sh .pr;
+          prNot = sh .prNot;
+          spare =
+              sh .spare
+              ∙ number-cong 64 (upto n (below capacities counts)) (upto n (λ c. ltb (getD counts c 0) (capacity net c))) (λ j l. go j (decLt j n));
+        }
+      where
+        go : (j : ℕ) → Dec (j < n) → (ltb j n && ltb (getD counts j 0) (getD capacities j 0)) ≡ (ltb j n && ltb (getD counts j 0) (capacity net j))
+        go j (yes h) = ap (λ (x : ℕ). ltb j n && ltb (getD counts j 0) x) (sym (d .capacity-at j h))
+        go j (no h) =
+            ap (λ (b : Bool). b && ltb (getD counts j 0) (getD capacities j 0)) (le-ltb j n (omega arith))
+            ∙ sym (ap (λ (b : Bool). b && ltb (getD counts j 0) (capacity net j)) (le-ltb j n (omega arith)))
+
+    fires-in : (r : Found) → Chooses n t cols s r → (net : Net) → Describes net n t cols capacities
+        → Fires r (size net) (below-capacity net (marking counts temps)) (marking counts temps) (transitions net)
+    fires-in r ch net d =
+        subst (λ (k : ℕ). Fires r k (below-capacity net (marking counts temps)) (marking counts temps) (transitions net)) (sym (d .contexts))
+        (ch .fires net (below-capacity net (marking counts temps)) (marking counts temps) (d .contexts) (d .fits) (d .table) (shows-net net d))
+
+    pub in-arrays : {i : ℕ} → Chooses n t cols s (At i) → i < 192
+    unfolding Passing
+    in-arrays ch = ch .passing .0
+
+    -- the transition found can fire
+    pub can-fire : {i : ℕ} → Chooses n t cols s (At i) → (firings ≡ 4096 → ⊥) → {a : Arcs} → a ≡ row cols i → Firable n capacities counts temps a s
+    unfolding Passing ready-row
+    can-fire ch h e =
+        let k = g .few in
+        let l : firings + 1 ≤ 4096 = omega arith in
+        record {
+          stands = g .stands;
+          ready = subst (λ (x : Arcs). passes x s ≡ true) (sym e) (ch .passing .1);
+          low = record { pr = λ c. omega (arith, g .low .pr c); prNot = λ c. omega (arith, g .low .prNot c) };
+        }
+
+    -- one more firing
+    pub going-on : {i : ℕ} → Chooses n t cols s (At i) → (firings ≡ 4096 → ⊥) → {a : Arcs} → a ≡ row cols i → {counts′ temps′ : List ℕ} {s′ : Marked}
+        → Fired n capacities counts temps a counts′ temps′ s′ → Going n t cols capacities counts₀ temps₀ counts′ temps′ s′ (firings + 1)
+    unfolding Fires
+    going-on {i} ch h {a} e {counts′} {temps′} f =
+        record {
+          few = let k = g .few in omega arith;
+          stands = f .stands;
+          low = subst (AtMost (firings + 1 + 1)) (sym (f .marking-is)) (fire-low (firings + 1) (reading n a) (marking counts temps) (g .low));
+          so-far = λ net d. further net d (fires-in (At i) ch net d);
+        }
+      where
+        further : (net : Net) → Describes net n t cols capacities → Fires (At i) (size net) (below-capacity net (marking counts temps)) (marking counts temps) (transitions net)
+            → Loops.Fired net (marking counts₀ temps₀) (firings + 1) (marking counts′ temps′)
+        further net d fi =
+            let u = getD (transitions net) i blank in
+            let has : Holds a u = subst (λ (x : Arcs). Holds x u) (sym e) (d .table .at i (omega (arith, fi .0, d .table .count))) in
+            let low : Bounded n u = subst (λ (k : ℕ). Bounded k u) (d .contexts) (each-getD (bounded net (d .fits)) i blank (fi .0)) in
+            let same : fire u (marking counts temps) ≡ marking counts′ temps′ = sym (f .marking-is ∙ reading-fires n (g .stands .few) a u has low (marking counts temps)) in
+            subst (Loops.Fired net (marking counts₀ temps₀) (firings + 1)) same
+            (subst (λ (k : ℕ). Loops.Fired net (marking counts₀ temps₀) k (fire u (marking counts temps))) (sym (add-one firings)) (more (g .so-far net d) u (fi .1)))
+
+    outcome : (net : Net) (quiet : Bool) → Loops.Ends net (marking counts₀ temps₀) 4096 quiet firings (marking counts temps)
+        → Outcomes (record { marked = s; firings = firings; quiet = quiet }) (marking counts temps) (fire-until-quiet net step-limit (marking counts₀ temps₀))
+    outcome net quiet e = record { quiet = sym (e .quiet-is); firings = sym (e .firings-are); marking = sym (e .marking-is) }
+
+    -- the ends
+    pub ends-quiet : Chooses n t cols s Nothing → Ends n t cols capacities counts₀ temps₀ counts temps (record { marked = s; firings = firings; quiet = true })
+    unfolding Fires
+    ends-quiet ch = record { stands = g .stands; outcome = λ net d. outcome net true (quiet net d (fires-in Nothing ch net d)) }
+      where
+        quiet : (net : Net) → Describes net n t cols capacities → Fires Nothing (size net) (below-capacity net (marking counts temps)) (marking counts temps) (transitions net)
+            → Loops.Ends net (marking counts₀ temps₀) 4096 true firings (marking counts temps)
+        quiet net d fi = loop-quiet net (marking counts₀ temps₀) (g .so-far net d) 4096 (g .few) fi
+
+    pub ends-stopped : {i : ℕ} → Chooses n t cols s (At i) → firings ≡ 4096
+        → Ends n t cols capacities counts₀ temps₀ counts temps (record { marked = s; firings = firings; quiet = false })
+    unfolding Fires
+    ends-stopped {i} ch e = record { stands = g .stands; outcome = λ net d. outcome net false (stopped net d (fires-in (At i) ch net d)) }
+      where
+        stopped : (net : Net) → Describes net n t cols capacities → Fires (At i) (size net) (below-capacity net (marking counts temps)) (marking counts temps) (transitions net)
+            → Loops.Ends net (marking counts₀ temps₀) 4096 false firings (marking counts temps)
+        stopped net d fi =
+            subst (λ (k : ℕ). Loops.Ends net (marking counts₀ temps₀) k false firings (marking counts temps)) e
+            (loop-stopped net (marking counts₀ temps₀) (g .so-far net d) (getD (transitions net) i blank) (fi .1))

@@ -1,0 +1,4 @@
+pub mod Markings
+pub mod Walks
+pub mod Moves
+pub mod Steps
