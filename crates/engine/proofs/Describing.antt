@@ -72,7 +72,7 @@ module _ (n : ℕ) (capacities : List ℕ) (r : ℕ) (relations : List ℕ) (o :
         table = subst (Table cols t) (ap₂ transitions-of (sym contexts-in) relations-are) (f .table);
       }
 
-  few-of : (cols : Columns) (t : ℕ) → Describes (net-in n capacities r relations) n t cols capacities → t ≤ 192
+  pub few-of : (cols : Columns) (t : ℕ) → Describes (net-in n capacities r relations) n t cols capacities → t ≤ 192
   unfolding net-in
   few-of cols t d =
       let p = length-transitions (net-in n capacities r relations) in

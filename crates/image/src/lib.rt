@@ -14,3 +14,4 @@ pub use loading::Loaded;
 pub use loading::check;
 pub use loading::load;
 pub use loading::records;
+pub use writing::copy;

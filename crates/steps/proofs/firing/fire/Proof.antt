@@ -1,3 +1,4 @@
+-- A ready transition finds the tokens that it takes and the room that it needs, so each kind of place can move, one after the other.
 use Rattle.steps.proofs.Firings.{counts-movable, pr-movable, not-movable, fired}
 use Rattle.steps.proofs.firing.fire.Statement.{statement}
 use Rattle.steps.proofs.firing.fire.Tie as tie

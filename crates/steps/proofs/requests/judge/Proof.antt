@@ -1,3 +1,4 @@
+-- The step begins in the marking of the request, and the verdict's two tests are the model's; a refusal puts the counts back.
 use Prim.Native.Nat.{ℕ}
 use mathlib.Core.List.{List}
 use mathlib.Core.Path.{_≡_, sym, ap, subst, _∙_}

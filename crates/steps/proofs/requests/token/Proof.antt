@@ -1,3 +1,4 @@
+-- One token among 96 empty places: at c, or at 48 + c.
 use borrow.Author.Needs.{needs}
 use Rattle.steps.proofs.Judging.{token-on, token-off}
 use Rattle.steps.proofs.requests.token.Statement.{statement}

@@ -1,3 +1,4 @@
+-- Where one of the contexts' own transitions is ready, the first of these fires; otherwise one of the others, by priority.
 use Prim.Native.Nat.{_*_}
 use mathlib.Core.Path.{subst}
 use borrow.Author.Needs.{needs}

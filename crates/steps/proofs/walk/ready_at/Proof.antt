@@ -1,3 +1,4 @@
+-- The two groups of tests are those of entry i, and where the first group fails the others do not count.
 use mathlib.Core.Bool.{Bool, _&&_}
 use mathlib.Core.Path.{_≡_, sym, ap, _∙_}
 use borrow.Author.Needs.{needs}

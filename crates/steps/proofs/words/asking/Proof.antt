@@ -1,3 +1,4 @@
+-- The counts at rest have no token on a temporary place, so the request's is the only one.
 use borrow.Author.Needs.{needs}
 use Rattle.steps.proofs.Judging.{asks-on, asks-off}
 use Rattle.steps.proofs.words.asking.Statement.{statement}

@@ -1,0 +1,212 @@
+-- A list of calls over lent arrays, from a fresh net: each call leads on as the machine does.
+-- Assumes nothing.
+use Prim.Native.Nat.{ℕ, zero, suc, _+_, _*_, _/_, _%_, _<_, _≤_}
+use native.Mathlib.Omega.{arith}
+use mathlib.Core.Path.{_≡_, refl, sym, subst, ap, ap₂, _∙_}
+use mathlib.Core.Bool.{Bool, true, false, _||_, not}
+use mathlib.Core.List.{List, [], _∷_, _++_, map}
+use lib.Dec.{ltb, eqb}
+use lib.ListN.{length, getD, take, drop, replicate}
+use lib.Seq.{drop-length}
+use borrow.Author.Tests.{ne-eqb, eq-eqb, lt-ltb, le-ltb}
+use Rattle.model.specs.Sets.{concat-map}
+use Rattle.model.specs.Relations.{Net}
+use Rattle.model.specs.Machine.{Event, Request, State, Board, respond, fresh, begin, board-at, after, log, event, zeros}
+use Rattle.model.specs.declared.Answer.{Answer}
+use Rattle.model.specs.declared.Call.{Call}
+use Rattle.model.proofs.Replay.{after-snoc, log-snoc}
+use Rattle.state.specs.View.{board-in, entries, counts-in}
+use Rattle.state.specs.declared.Ring.{Ring}
+use Rattle.state.specs.declared.Tally.{Tally}
+use Rattle.state.proofs.States.{zeros-in}
+use Rattle.engine.specs.Serving.{state-at, Serves}
+use Rattle.engine.specs.declared.serving.Served.{Served}
+use Rattle.image.specs.Bytes.{put}
+use Rattle.image.proofs.Puts.{put-next, put-none, length-put, concat-map-append}
+use Rattle.history.specs.Reports.{call-in, calls-in, unknown-call, no-calls, answer-bytes, answers-of}
+use Rattle.history.specs.Running.{Answered, Led, Ended}
+use Rattle.history.specs.declared.lists.Ending.{Ending}
+
+-- ---- calls in bytes
+
+-- the first k calls, and one more
+calls-step : (k : ℕ) (bs : List ℕ) → 3 * k + 2 < length bs
+    → calls-in (take (3 * k + 3) bs) ≡ calls-in (take (3 * k) bs) ++ (call-in (getD bs (3 * k) 0) (getD bs (3 * k + 1) 0) (getD bs (3 * k + 2) 0) ∷ [])
+unfolding calls-in
+calls-step zero [] h = absurd (omega arith)
+calls-step zero (a ∷ []) h = absurd (omega arith)
+calls-step zero (a ∷ b ∷ []) h = absurd (omega arith)
+calls-step zero (a ∷ b ∷ c ∷ bs) h = refl
+calls-step (suc k) [] h = absurd (omega arith)
+calls-step (suc k) (a ∷ []) h = absurd (omega arith)
+calls-step (suc k) (a ∷ b ∷ []) h = absurd (omega arith)
+calls-step (suc k) (a ∷ b ∷ c ∷ bs) h =
+    let l = a ∷ b ∷ c ∷ bs in
+    let p : 3 * suc k ≡ suc (suc (suc (3 * k))) = omega arith in
+    let p₁ : 3 * suc k + 1 ≡ suc (suc (suc (3 * k + 1))) = omega arith in
+    let p₂ : 3 * suc k + 2 ≡ suc (suc (suc (3 * k + 2))) = omega arith in
+    let p₃ : 3 * suc k + 3 ≡ suc (suc (suc (3 * k + 3))) = omega arith in
+    ap (λ (j : ℕ). calls-in (take j l)) p₃
+    ∙ ap (λ (cs : List Call). call-in a b c ∷ cs) (calls-step k bs (omega arith))
+    ∙ sym (ap (λ (j : ℕ). calls-in (take j l) ++ (call-in (getD l (3 * suc k) 0) (getD l (3 * suc k + 1) 0) (getD l (3 * suc k + 2) 0) ∷ [])) p
+    ∙ (λ i. calls-in (take (suc (suc (suc (3 * k)))) l) ++ (call-in (getD l (p i) 0) (getD l (p₁ i) 0) (getD l (p₂ i) 0) ∷ [])))
+
+pub calls-more : (i : ℕ) (bs : List ℕ) → i % 3 ≡ 0 → i + 2 < length bs
+    → calls-in (take (i + 3) bs) ≡ calls-in (take i bs) ++ (call-in (getD bs i 0) (getD bs (i + 1) 0) (getD bs (i + 2) 0) ∷ [])
+calls-more i bs whole h =
+    let e : 3 * (i / 3) ≡ i = omega arith in
+    subst (λ (j : ℕ). calls-in (take (j + 3) bs) ≡ calls-in (take j bs) ++ (call-in (getD bs j 0) (getD bs (j + 1) 0) (getD bs (j + 2) 0) ∷ [])) e
+    (calls-step (i / 3) bs (subst (λ (j : ℕ). j + 2 < length bs) (sym e) h))
+
+calls-count : (k : ℕ) (bs : List ℕ) → 3 * k ≤ length bs → length (calls-in (take (3 * k) bs)) ≡ k
+unfolding calls-in
+calls-count zero bs h = refl
+calls-count (suc k) [] h = absurd (omega arith)
+calls-count (suc k) (a ∷ []) h = absurd (omega arith)
+calls-count (suc k) (a ∷ b ∷ []) h = absurd (omega arith)
+calls-count (suc k) (a ∷ b ∷ c ∷ bs) h =
+    let p : 3 * suc k ≡ suc (suc (suc (3 * k))) = omega arith in
+    ap (λ (j : ℕ). length (calls-in (take j (a ∷ b ∷ c ∷ bs)))) p ∙ ap suc (calls-count k bs (omega arith))
+
+-- how many bytes the answers take: as many as the calls
+log-length : (s : State) (cs : List Call) → length (log s cs) ≡ length cs
+unfolding log
+log-length s [] = refl
+log-length s (c ∷ cs) = ap suc (log-length (respond s c .state) cs)
+
+answers-length : (es : List Event) → length (concat-map answer-bytes (map (λ (e : Event). e .answer) es)) ≡ 3 * length es
+answers-length [] = refl
+answers-length (e ∷ es) =
+    let i = answers-length es in
+    let p : 3 * suc (length es) ≡ suc (suc (suc (3 * length es))) = omega arith in
+    ap (λ (x : ℕ). suc (suc (suc x))) i ∙ sym p
+
+pub answers-long : (net : Net) (i : ℕ) (bs : List ℕ) → i % 3 ≡ 0 → i ≤ length bs → length (answers-of net (calls-in (take i bs))) ≡ i
+answers-long net i bs whole h =
+    let e : 3 * (i / 3) ≡ i = omega arith in
+    answers-length (log (fresh net) (calls-in (take i bs)))
+    ∙ ap (λ (x : ℕ). 3 * x) (log-length (fresh net) (calls-in (take i bs)))
+    ∙ subst (λ (j : ℕ). 3 * length (calls-in (take j bs)) ≡ j) e (ap (λ (x : ℕ). 3 * x) (calls-count (i / 3) bs (omega arith)))
+
+-- ---- one call after the other
+
+map-snoc : (es : List Event) (e : Event) → map (λ (x : Event). x .answer) (es ++ (e ∷ [])) ≡ map (λ (x : Event). x .answer) es ++ (e .answer ∷ [])
+map-snoc [] e = refl
+map-snoc (x ∷ es) e = ap (λ (l : List Answer). x .answer ∷ l) (map-snoc es e)
+
+answers-snoc : (net : Net) (cs : List Call) (c : Call) → answers-of net (cs ++ (c ∷ [])) ≡ answers-of net cs ++ answer-bytes (respond (after (fresh net) cs) c .answer)
+answers-snoc net cs c =
+    ap (λ (l : List Event). concat-map answer-bytes (map (λ (x : Event). x .answer) l)) (log-snoc (fresh net) cs c)
+    ∙ ap (concat-map answer-bytes) (map-snoc (log (fresh net) cs) (event (after (fresh net) cs) c))
+    ∙ concat-map-append answer-bytes (map (λ (x : Event). x .answer) (log (fresh net) cs)) (respond (after (fresh net) cs) c .answer ∷ [])
+
+-- before the first call
+pub led-none : (net : Net) (out : List ℕ) → Led net [] (replicate 48 0) (replicate 32 0) (replicate 1536 0) (record { first = 0; opened = 0 }) (record { granted = 0; refused = 0; undone = 0 }) out out
+unfolding after log board-in board-at entries
+led-none net out =
+    record {
+      state = λ i. record {
+        board = record { net = net; counts = zeros-in 48 i; settled = []; opened = [] };
+        tally = record { granted = 0; refused = 0; undone = 0 };
+      };
+      written = put-none out 0;
+    }
+
+-- one call more
+pub led-more : (net : Net) (cs : List Call) (c : Call) (counts requests markings : List ℕ) (ring : Ring) (tally : Tally) (out₀ out : List ℕ)
+    → Led net cs counts requests markings ring tally out₀ out → (i : ℕ) → length (answers-of net cs) ≡ i → i + 3 ≤ length out₀
+    → (counts′ requests′ markings′ : List ℕ) (s : Served) (out′ : List ℕ)
+    → Answered net c counts requests markings ring tally counts′ requests′ markings′ s out i out′
+    → Led net (cs ++ (c ∷ [])) counts′ requests′ markings′ (s .ring) (s .tally) out₀ out′
+led-more net cs c counts requests markings ring tally out₀ out l i long room counts′ requests′ markings′ s out′ a =
+    let m = after (fresh net) cs in
+    let σ = m .board .settled in
+    let snoc = after-snoc (fresh net) cs c in
+    let same : s .answer ≡ respond m c .answer = a .serves .answer σ ∙ ap (λ (x : State). respond x c .answer) (l .state) in
+    let led : state-at net counts′ requests′ markings′ (s .ring) (s .tally) (respond m c .state .board .settled) ≡ respond m c .state =
+    subst (λ (x : State). state-at net counts′ requests′ markings′ (s .ring) (s .tally) (respond x c .state .board .settled) ≡ respond x c .state) (l .state) (a .serves .state σ) in
+    record {
+      state = subst (λ (x : State). state-at net counts′ requests′ markings′ (s .ring) (s .tally) (x .board .settled) ≡ x) (sym snoc) led;
+      written =
+          put-next out₀ 0 i i (answers-of net cs) (answer-bytes (s .answer)) (l .written) long (omega arith) (omega arith) (a .written)
+          ∙ ap (put out₀ 0) (ap (λ (x : Answer). answers-of net cs ++ answer-bytes x) same ∙ sym (answers-snoc net cs c));
+    }
+
+-- the same by the bytes of the list
+pub led-next : (net : Net) (bs : List ℕ) (i k : ℕ) → k ≡ i + 3 → i % 3 ≡ 0 → i + 2 < length bs → (counts requests markings : List ℕ) (ring : Ring) (tally : Tally) (out₀ out : List ℕ)
+    → i + 3 ≤ length out₀ → Led net (calls-in (take i bs)) counts requests markings ring tally out₀ out
+    → (counts′ requests′ markings′ : List ℕ) (s : Served) (out′ : List ℕ)
+    → Answered net (call-in (getD bs i 0) (getD bs (i + 1) 0) (getD bs (i + 2) 0)) counts requests markings ring tally counts′ requests′ markings′ s out i out′
+    → Led net (calls-in (take k bs)) counts′ requests′ markings′ (s .ring) (s .tally) out₀ out′
+led-next net bs i k next whole h counts requests markings ring tally out₀ out room l counts′ requests′ markings′ s out′ a =
+    subst (λ (cs : List Call). Led net cs counts′ requests′ markings′ (s .ring) (s .tally) out₀ out′) (sym (ap (λ (j : ℕ). calls-in (take j bs)) next ∙ calls-more i bs whole h))
+    (led-more net (calls-in (take i bs)) _ counts requests markings ring tally out₀ out l i (answers-long net i bs whole (omega arith)) room counts′ requests′ markings′ s out′ a)
+
+-- an answer keeps the output's length
+pub answered-length : {net : Net} {call : Call} {counts requests markings : List ℕ} {ring : Ring} {tally : Tally} {counts′ requests′ markings′ : List ℕ} {s : Served} {out out′ : List ℕ} {i : ℕ}
+    → i + 3 ≤ length out → Answered net call counts requests markings ring tally counts′ requests′ markings′ s out i out′ → length out′ ≡ length out
+answered-length {s = s} {out = out} {i = i} h a = ap length (a .written) ∙ length-put out i (answer-bytes (s .answer)) h
+
+-- the end of the list
+pub led-all : (net : Net) (bs : List ℕ) (i : ℕ) → length bs ≤ i → (counts requests markings : List ℕ) (ring : Ring) (tally : Tally) (out₀ out : List ℕ)
+    → Led net (calls-in (take i bs)) counts requests markings ring tally out₀ out → Ended net bs out₀ (record { counts = counts; tally = tally }) out
+unfolding board-in
+led-all net bs i h counts requests markings ring tally out₀ out l =
+    let all : take i bs ≡ bs = take-whole i bs h in
+    let k : Led net (calls-in bs) counts requests markings ring tally out₀ out =
+    subst (λ (x : List ℕ). Led net (calls-in x) counts requests markings ring tally out₀ out) all l in
+    record { counts = ap (λ (s : State). s .board .counts) (k .state); tally-is = ap (λ (s : State). s .tally) (k .state); written = k .written }
+  where
+    take-whole : (j : ℕ) (xs : List ℕ) → length xs ≤ j → take j xs ≡ xs
+    take-whole zero [] q = refl
+    take-whole zero (x ∷ xs) q = absurd (omega arith)
+    take-whole (suc j) [] q = refl
+    take-whole (suc j) (x ∷ xs) q = ap (λ (l : List ℕ). x ∷ l) (take-whole j xs (omega arith))
+
+-- ---- the test of a list of calls
+
+unknown-step : (k : ℕ) (bs : List ℕ) → 3 * k + 2 < length bs → unknown-call (drop (3 * k) bs) ≡ (ltb 3 (getD bs (3 * k) 0) || unknown-call (drop (3 * k + 3) bs))
+unfolding unknown-call
+unknown-step zero [] h = absurd (omega arith)
+unknown-step zero (a ∷ []) h = absurd (omega arith)
+unknown-step zero (a ∷ b ∷ []) h = absurd (omega arith)
+unknown-step zero (a ∷ b ∷ c ∷ bs) h = refl
+unknown-step (suc k) [] h = absurd (omega arith)
+unknown-step (suc k) (a ∷ []) h = absurd (omega arith)
+unknown-step (suc k) (a ∷ b ∷ []) h = absurd (omega arith)
+unknown-step (suc k) (a ∷ b ∷ c ∷ bs) h =
+    let l = a ∷ b ∷ c ∷ bs in
+    let p : 3 * suc k ≡ suc (suc (suc (3 * k))) = omega arith in
+    let p₃ : 3 * suc k + 3 ≡ suc (suc (suc (3 * k + 3))) = omega arith in
+    ap (λ (j : ℕ). unknown-call (drop j l)) p ∙ unknown-step k bs (omega arith)
+    ∙ sym (λ i. ltb 3 (getD l (p i) 0) || unknown-call (drop (p₃ i) l))
+
+pub unknown-next : (i : ℕ) (bs : List ℕ) → i % 3 ≡ 0 → i + 2 < length bs → unknown-call (drop i bs) ≡ (ltb 3 (getD bs i 0) || unknown-call (drop (i + 3) bs))
+unknown-next i bs whole h =
+    let e : 3 * (i / 3) ≡ i = omega arith in
+    subst (λ (j : ℕ). unknown-call (drop j bs) ≡ (ltb 3 (getD bs j 0) || unknown-call (drop (j + 3) bs))) e
+    (unknown-step (i / 3) bs (subst (λ (j : ℕ). j + 2 < length bs) (sym e) h))
+
+or-true : (b : Bool) → (b || true) ≡ true
+or-true true = refl
+or-true false = refl
+
+-- bytes that are not whole calls; a call that is none of the four; and neither
+pub calls-torn : (bs : List ℕ) → (length bs % 3 ≡ 0 → ⊥) → false ≡ not (no-calls bs)
+calls-torn bs h = sym (ap (λ (b : Bool). not (not b || unknown-call bs)) (ne-eqb (length bs % 3) 0 h))
+
+pub calls-unknown : (i : ℕ) (bs : List ℕ) → i % 3 ≡ 0 → i + 2 < length bs → unknown-call (drop i bs) ≡ unknown-call bs → 3 < getD bs i 0 → false ≡ not (no-calls bs)
+calls-unknown i bs whole h same big =
+    let u : unknown-call bs ≡ true = sym same ∙ unknown-next i bs whole h ∙ ap (λ (b : Bool). b || unknown-call (drop (i + 3) bs)) (lt-ltb 3 (getD bs i 0) big) in
+    sym (ap (λ (b : Bool). not (not (eqb (length bs % 3) 0) || b)) u ∙ ap not (or-true (not (eqb (length bs % 3) 0))))
+
+pub calls-known : (i : ℕ) (bs : List ℕ) → i % 3 ≡ 0 → i + 2 < length bs → unknown-call (drop i bs) ≡ unknown-call bs → getD bs i 0 ≤ 3
+    → unknown-call (drop (i + 3) bs) ≡ unknown-call bs
+calls-known i bs whole h same small =
+    sym (unknown-next i bs whole h ∙ ap (λ (b : Bool). b || unknown-call (drop (i + 3) bs)) (le-ltb 3 (getD bs i 0) small)) ∙ same
+
+pub calls-whole : (i : ℕ) (bs : List ℕ) → length bs % 3 ≡ 0 → i ≡ length bs → unknown-call (drop i bs) ≡ unknown-call bs → true ≡ not (no-calls bs)
+unfolding unknown-call
+calls-whole i bs whole e same =
+    let none : unknown-call bs ≡ false = sym same ∙ ap unknown-call (ap (λ (k : ℕ). drop k bs) e ∙ drop-length bs) in
+    sym (ap₂ (λ (b u : Bool). not (not b || u)) (eq-eqb (length bs % 3) 0 whole) none)

@@ -1,0 +1,4 @@
+pub mod Chains
+pub mod Calling
+pub mod Leading
+pub mod Reporting

@@ -1,0 +1,3 @@
+pub mod Chains
+pub mod Reports
+pub mod Running

@@ -1,0 +1,304 @@
+// A list of calls from lent bytes, on the net freshly loaded from an image, and its answers in a lent buffer.
+ghost use mathlib.Core.Path.{_≡_};
+ghost use mathlib.Core.Bool.{not};
+ghost use Prim.Native.Nat.{ℕ, _+_, _*_, _%_, _<_, _≤_};
+ghost use mathlib.Core.List.{[], _++_};
+ghost use lib.ListN.{length, getD, take};
+ghost use Rattle.model.specs.Machine.{fresh};
+ghost use Rattle.state.specs.View.{state, tally-in};
+ghost use Rattle.model.specs.Relations.{Net};
+ghost use Rattle.model.specs.Refusals.{verdict-number};
+ghost use Rattle.net.specs.Tables.{columns};
+ghost use Rattle.image.specs.Bytes.{put};
+ghost use Rattle.steps.specs.Steps.{Describes};
+ghost use Rattle.engine.specs.Serving.{Runs, Running};
+ghost use Rattle.history.specs.Reports.{call-in, no-calls, answer-bytes, tally-bytes, ran};
+ghost use Rattle.history.specs.Running.{Answered, Held, Ended, Reports};
+use engine::Served;
+use model::Answer;
+use model::Call;
+use model::Verdict;
+use state::Engine;
+use state::Ring;
+use state::Tally;
+
+// A number of two bytes, the low one first.
+fn pair(low: u8, high: u8) -> usize
+    ensures { λ r. ⌜ r ≡ low + 256 * high ⌝ }
+{
+    low as usize + 256 * high as usize
+}
+
+// The call in three bytes.
+fn call_of(k: u8, low: u8, high: u8) -> Call
+    ensures { λ r. ⌜ r ≡ call-in k low high ⌝ }
+{
+    let c = pair(low, high);
+    match k {
+        0 => Call::Activate(c),
+        1 => Call::Deactivate(c),
+        2 => Call::Undo,
+        _ => Call::Settle,
+    }
+}
+
+// The call that begins at byte i. The caller knows that it is whole.
+fn call_at(calls: &[u8], i: usize) -> Call
+    requires { ⌜ i + 2 < length (now calls) ⌝ }
+    ensures { λ r. ⌜ r ≡ call-in (getD (now (calls .entry)) i 0) (getD (now (calls .entry)) (i + 1) 0) (getD (now (calls .entry)) (i + 2) 0) ⌝ }
+{
+    call_of(calls[i], calls[i + 1], calls[i + 2])
+}
+
+// 0, or the refusal.
+fn number_of(verdict: Verdict) -> u8
+    ensures { λ r. ⌜ r ≡ verdict-number verdict ⌝ }
+{
+    match verdict {
+        Verdict::Granted => 0,
+        Verdict::Refused(k) => k,
+    }
+}
+
+// Writes an answer's three bytes from byte i on. The caller has room for them.
+fn write_answer(out: &mut [u8], i: usize, answer: Answer)
+    requires { ⌜ i + 2 < length (now out) ⌝ }
+    ensures { λ _. ⌜ now (out .exit) ≡ put (now (out .entry)) i (answer-bytes answer) ⌝ }
+{
+    let verdict = answer.verdict;
+    let firings = answer.firings;
+    out[i] = number_of(verdict);
+    out[i + 1] = (firings % 256) as u8;
+    out[i + 2] = (firings / 256 % 256) as u8;
+}
+
+// Makes the call that begins at byte i and writes its answer there.
+fn answer_one<'a>(
+    priority: &'a [u8; 192],
+    takesContext: &'a [u64; 192],
+    takesPr: &'a [u64; 192],
+    takesNot: &'a [u64; 192],
+    givesContext: &'a [u64; 192],
+    givesPr: &'a [u64; 192],
+    givesNot: &'a [u64; 192],
+    inhibContext: &'a [u64; 192],
+    inhibPr: &'a [u64; 192],
+    t: usize,
+    n: usize,
+    capacities: &'a [u8; 48],
+    counts: &mut [u8; 48],
+    requests: &mut [u16; 32],
+    markings: &mut [u8; 1536],
+    ring: Ring,
+    tally: Tally,
+    calls: &[u8],
+    i: usize,
+    out: &mut [u8],
+) -> Served
+    requires { ⌜ Runs n t (columns (now priority) (now takesContext) (now takesPr) (now takesNot) (now givesContext) (now givesPr) (now givesNot) (now inhibContext) (now inhibPr)) (now capacities) (now requests) (now markings) ring ⌝ }
+    requires { ⌜ (i + 2 < length (now calls)) × (i + 2 < length (now out)) ⌝ }
+    ensures { λ r. ⌜ ((net : Net) → Running net n t (columns (now (priority .entry)) (now (takesContext .entry)) (now (takesPr .entry)) (now (takesNot .entry)) (now (givesContext .entry)) (now (givesPr .entry)) (now (givesNot .entry)) (now (inhibContext .entry)) (now (inhibPr .entry))) (now (capacities .entry)) (now (requests .entry)) (now (markings .entry)) ring → Answered net (call-in (getD (now (calls .entry)) i 0) (getD (now (calls .entry)) (i + 1) 0) (getD (now (calls .entry)) (i + 2) 0)) (now (counts .entry)) (now (requests .entry)) (now (markings .entry)) ring tally (now (counts .exit)) (now (requests .exit)) (now (markings .exit)) r (now (out .entry)) i (now (out .exit))) ⌝ }
+{
+    let s = engine::serve(
+        priority,
+        takesContext,
+        takesPr,
+        takesNot,
+        givesContext,
+        givesPr,
+        givesNot,
+        inhibContext,
+        inhibPr,
+        t,
+        n,
+        capacities,
+        counts,
+        requests,
+        markings,
+        ring,
+        tally,
+        call_at(calls, i),
+    );
+    write_answer(out, i, s.answer);
+    s
+}
+
+// What a list of calls leaves, beside its answers.
+pub struct Ending {
+    pub counts: [u8; 48],
+    pub tally: Tally,
+}
+
+// Where the call behind the one at byte i begins. The caller knows that this one is whole.
+fn next_call(i: usize, end: usize) -> usize
+    requires { ⌜ i + 3 ≤ end ⌝ }
+    ensures { λ r. ⌜ r ≡ i + 3 ⌝ }
+{
+    i + 3
+}
+
+// Makes the calls of a list on the machine of a net before its first call, and writes their answers to the output's start. The caller's
+// arrays hold the net, the calls are whole, and the output has room for the answers.
+fn answer_all<'a>(
+    priority: &'a [u8; 192],
+    takesContext: &'a [u64; 192],
+    takesPr: &'a [u64; 192],
+    takesNot: &'a [u64; 192],
+    givesContext: &'a [u64; 192],
+    givesPr: &'a [u64; 192],
+    givesNot: &'a [u64; 192],
+    inhibContext: &'a [u64; 192],
+    inhibPr: &'a [u64; 192],
+    t: usize,
+    n: usize,
+    capacities: &'a [u8; 48],
+    calls: &[u8],
+    out: &mut [u8],
+) -> Ending
+    requires { ⌜ Held n t (columns (now priority) (now takesContext) (now takesPr) (now takesNot) (now givesContext) (now givesPr) (now givesNot) (now inhibContext) (now inhibPr)) (now capacities) ⌝ }
+    requires { ⌜ (length (now calls) % 3 ≡ 0) × (length (now calls) ≤ length (now out)) ⌝ }
+    ensures { λ r. ⌜ ((net : Net) → Describes net n t (columns (now (priority .entry)) (now (takesContext .entry)) (now (takesPr .entry)) (now (takesNot .entry)) (now (givesContext .entry)) (now (givesPr .entry)) (now (givesNot .entry)) (now (inhibContext .entry)) (now (inhibPr .entry))) (now (capacities .entry)) → Ended net (now (calls .entry)) (now (out .entry)) r (now (out .exit))) ⌝ }
+{
+    let mut counts = [0u8; 48];
+    let mut requests = [0u16; 32];
+    let mut markings = [0u8; 1536];
+    let mut ring = Ring {
+        first: 0,
+        opened: 0,
+    };
+    let mut tally = Tally {
+        granted: 0,
+        refused: 0,
+        undone: 0,
+    };
+    let mut i = 0;
+    while i < calls.len() {
+        let s = answer_one(
+            priority,
+            takesContext,
+            takesPr,
+            takesNot,
+            givesContext,
+            givesPr,
+            givesNot,
+            inhibContext,
+            inhibPr,
+            t,
+            n,
+            capacities,
+            &mut counts,
+            &mut requests,
+            &mut markings,
+            ring,
+            tally,
+            calls,
+            i,
+            out,
+        );
+        ring = s.ring;
+        tally = s.tally;
+        i = next_call(i, calls.len());
+    }
+    Ending { counts, tally }
+}
+
+// Whether the bytes are whole calls, each of the four.
+fn are_calls(calls: &[u8]) -> bool
+    ensures { λ r. ⌜ r ≡ not (no-calls (now (calls .entry))) ⌝ }
+{
+    if calls.len() % 3 != 0 {
+        return false;
+    }
+    let mut i = 0;
+    while calls.len() > i {
+        if 3 < calls[i] {
+            return false;
+        }
+        i += 3;
+    }
+    true
+}
+
+// The totals in four bytes each, the low byte first.
+fn total_bytes(t: Tally) -> [u8; 12]
+    ensures { λ r. ⌜ r ≡ tally-bytes (tally-in t) ⌝ }
+{
+    let g = t.granted;
+    let r = t.refused;
+    let u = t.undone;
+    [
+        (g % 256) as u8,
+        (g / 256 % 256) as u8,
+        (g / 256 / 256 % 256) as u8,
+        (g / 256 / 256 / 256 % 256) as u8,
+        (r % 256) as u8,
+        (r / 256 % 256) as u8,
+        (r / 256 / 256 % 256) as u8,
+        (r / 256 / 256 / 256 % 256) as u8,
+        (u % 256) as u8,
+        (u / 256 % 256) as u8,
+        (u / 256 / 256 % 256) as u8,
+        (u / 256 / 256 / 256 % 256) as u8,
+    ]
+}
+
+// Writes the counts of n contexts and the totals from a place on. The caller has room for them.
+fn write_state(out: &mut [u8], at: usize, n: usize, end: Ending)
+    requires { ⌜ (n ≤ 48) × (at + n + 12 ≤ length (now out)) ⌝ }
+    ensures { λ _. ⌜ now (out .exit) ≡ put (now (out .entry)) at (take n (end .counts) ++ tally-bytes (tally-in (end .tally))) ⌝ }
+{
+    let counts = end.counts;
+    let totals = total_bytes(end.tally);
+    image::copy(out, at, &counts[..n]);
+    image::copy(out, at + n, &totals);
+}
+
+// Runs a list of calls on a fresh engine. The caller's calls are whole and known.
+fn run_on(e: Engine, calls: &[u8], out: &mut [u8]) -> usize
+    requires { ⌜ length (now calls) % 3 ≡ 0 ⌝ }
+    ensures { λ r. ⌜ ((net : Net) → state e [] ≡ fresh net → Reports net (now (calls .entry)) (now (out .entry)) r (now (out .exit))) ⌝ }
+{
+    let n = state::contexts(e);
+    let m = 3 * state::relation_count(e);
+    let size = calls.len();
+    if out.len() < n + 12 {
+        return 0;
+    }
+    if out.len() - (n + 12) < size {
+        return 0;
+    }
+    let written = size + (n + 12);
+    let relations = e.relations;
+    let capacities = e.capacities;
+    let net = net::composed(n, &relations[..m]);
+    let end = answer_all(
+        &net.priority,
+        &net.takesContext,
+        &net.takesPr,
+        &net.takesNot,
+        &net.givesContext,
+        &net.givesPr,
+        &net.givesNot,
+        &net.inhibContext,
+        &net.inhibPr,
+        net.t,
+        n,
+        &capacities,
+        calls,
+        out,
+    );
+    write_state(out, size, n, end);
+    written
+}
+
+// A list of calls on the net freshly loaded from an image: how many bytes were written, 0 where nothing was.
+pub fn run(image: &[u8], calls: &[u8], out: &mut [u8]) -> usize
+    ensures { λ r. ⌜ (record { written = r; output = now (out .exit) }) ≡ ran (now (image .entry)) (now (calls .entry)) (now (out .entry)) ⌝ }
+{
+    if !are_calls(calls) {
+        return 0;
+    }
+    let loaded = image::load(image);
+    let e = loaded.engine;
+    run_on(e, calls, out)
+}
