@@ -1,0 +1,13 @@
+//! Times the proved engine against an optimised implementation of the same
+//! machine, after comparing what the two give byte for byte.
+
+#[cfg(feature = "board")]
+pub mod board;
+pub mod job;
+pub mod measure;
+pub mod nets;
+pub mod optimised;
+pub mod random;
+pub mod side;
+pub mod verify;
+pub mod workloads;
