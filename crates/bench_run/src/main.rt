@@ -10,7 +10,7 @@ use model::Call;
 use state::Engine;
 
 // What is kept from one read to the next: the engine, the line that has not ended yet, and whether the input goes on.
-struct Session {
+struct Progress {
     engine: Engine,
     line: Line,
     goes: bool,
@@ -69,9 +69,9 @@ fn answer_line(engine: Engine, line: Line) -> Engine {
 }
 
 // Takes in bytes of the input, and answers each line that ends among them.
-fn take(session: Session, bytes: &[u8]) -> Session {
-    let mut engine = session.engine;
-    let mut line = session.line;
+fn take(progress: Progress, bytes: &[u8]) -> Progress {
+    let mut engine = progress.engine;
+    let mut line = progress.line;
     let mut i = 0;
     while i < bytes.len() {
         let b = bytes[i];
@@ -83,18 +83,18 @@ fn take(session: Session, bytes: &[u8]) -> Session {
         }
         i += 1;
     }
-    Session {
+    Progress {
         engine,
         line,
         goes: true,
     }
 }
 
-// The session where the input has ended.
-fn ended(session: Session) -> Session {
-    let engine = session.engine;
-    let line = session.line;
-    Session {
+// The same where the input has ended.
+fn ended(progress: Progress) -> Progress {
+    let engine = progress.engine;
+    let line = progress.line;
+    Progress {
         engine,
         line,
         goes: false,
@@ -102,32 +102,32 @@ fn ended(session: Session) -> Session {
 }
 
 // Reads once, and takes in what came.
-fn read_some(session: Session) -> Session {
+fn read_some(progress: Progress) -> Progress {
     let mut bytes = io::buffer();
     let got = libc::read(STDIN_FILENO, &mut bytes);
     if got <= 0 {
-        return ended(session);
+        return ended(progress);
     }
     let n = io::count(got, &bytes);
-    take(session, &bytes[..n])
+    take(progress, &bytes[..n])
 }
 
 // Reads the input to its end. The loop counts down from a number that no input uses up, since a proved loop has to end.
-fn read_all(start: Session) -> Session {
-    let mut session = start;
+fn read_all(start: Progress) -> Progress {
+    let mut progress = start;
     let mut turns = u64::MAX;
-    while turns > 0 && session.goes {
-        session = read_some(session);
+    while turns > 0 && progress.goes {
+        progress = read_some(progress);
         turns -= 1;
     }
-    session
+    progress
 }
 
-// The session before the first read.
-fn begin() -> Session {
+// What is kept before the first read.
+fn begin() -> Progress {
     let engine = load();
     let line = lines::begin();
-    Session {
+    Progress {
         engine,
         line,
         goes: true,
@@ -136,9 +136,9 @@ fn begin() -> Session {
 
 // A last line that lacks its line end counts too.
 fn main() {
-    let session = read_all(begin());
-    let engine = session.engine;
-    let line = session.line;
+    let progress = read_all(begin());
+    let engine = progress.engine;
+    let line = progress.line;
     if lines::pending(line) {
         answer_line(engine, line);
     }

@@ -5,10 +5,10 @@ use Rattle.bench_run.proofs.read_all.Statement.{statement}
 use Rattle.bench_run.proofs.read_all.Tie as tie
 
 abbrev Inv-loop : tie.InvT-loop
-Inv-loop session₀ turns₀ session turns = Unit {0}
+Inv-loop progress₀ turns₀ progress turns = Unit {0}
 
 abbrev μ-loop : tie.MeasureT-loop
-μ-loop session₀ turns₀ session turns = turns
+μ-loop progress₀ turns₀ progress turns = turns
 
 loop-holds : tie.Need-loop-holds Inv-loop μ-loop
 loop-holds c = search needs
