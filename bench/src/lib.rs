@@ -1,5 +1,5 @@
-//! Times the proved engine against an optimised implementation of the same
-//! machine, after comparing what the two give byte for byte.
+//! Times the proved engine against optimised implementations of the same
+//! machine, after comparing what they give byte for byte.
 
 #[cfg(feature = "board")]
 pub mod board;

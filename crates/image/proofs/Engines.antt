@@ -8,10 +8,8 @@ use mathlib.Core.List.{List}
 use lib.ListN.{length, take, drop}
 use lib.Seq.{take-at}
 use Rattle.model.specs.Sets.{any}
-use Rattle.model.specs.Refusals.{is-granted}
 use Rattle.model.specs.Relations.{Net, empty-net, misfit}
 use Rattle.model.specs.Image.{Trailer, edition-1, read-relations, net-of, trailer-of, load}
-use Rattle.model.specs.declared.Verdict.{Verdict}
 use Rattle.model.specs.declared.Verdict.the-variants.{Granted}
 use Rattle.model.proofs.Accepts.{loaded-fits}
 use Rattle.net.proofs.Reading.{first-part}
@@ -21,7 +19,7 @@ use Rattle.image.specs.Bytes.{put}
 use Rattle.image.specs.Loading.{LaidOut, relation-part}
 use Rattle.image.proofs.Puts.{put-start}
 use Rattle.image.proofs.Parts.{length-capacities, length-relations}
-use Rattle.image.proofs.Loads.{laid-by}
+use Rattle.image.proofs.Loads.{laid-by, net-by}
 
 -- bytes put at the start of an array are found there again
 take-put : (l bytes : List ℕ) (k : ℕ) → length bytes ≡ k → take k (put l 0 bytes) ≡ bytes
@@ -38,10 +36,6 @@ module _ (img : List ℕ) (g : load edition-1 img .verdict ≡ Granted) (e : Tra
   abbrev relations : List ℕ
   relations = put d 0 bs
 
-  loaded-net : net-of edition-1 img e ≡ load edition-1 img .net
-  unfolding load
-  loaded-net = ap (net-of edition-1 img) e-is ∙ sym (ap (λ (v : Verdict). cond (is-granted v) (net-of edition-1 img (trailer-of edition-1 img)) empty-net) g)
-
   relations-kept : read-relations edition-1 r relations ≡ read-relations edition-1 (e .r) (drop (length img - 8 - e .to-relations) img)
   relations-kept =
       let k : length bs ≡ 3 * r = omega (arith, ap length bs-is, length-relations img e laid) in
@@ -55,7 +49,7 @@ module _ (img : List ℕ) (g : load edition-1 img .verdict ≡ Granted) (e : Tra
 
   net-kept : net-in n capacities r relations ≡ load edition-1 img .net
   unfolding net-in net-of
-  net-kept = (λ i. record { caps = (capacities-kept ∙ ap (λ (k : ℕ). take k img) n-is) i; rels = relations-kept i }) ∙ loaded-net
+  net-kept = (λ i. record { caps = (capacities-kept ∙ ap (λ (k : ℕ). take k img) n-is) i; rels = relations-kept i }) ∙ net-by img g e-is
 
   fits : any (misfit n) (read-relations edition-1 r relations) ≡ false
   unfolding net-in

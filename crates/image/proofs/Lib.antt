@@ -1,10 +1,13 @@
 pub mod Puts
-pub mod Agrees
 pub mod Words
 pub mod Verdicts
 pub mod Given
+pub mod Agrees
+pub mod Blocks
+pub mod Reaching
 pub mod Answering
 pub mod Parts
 pub mod Loads
 pub mod Engines
+pub mod Lists
 pub mod Roundtrip

@@ -54,10 +54,11 @@ module _ (img : List ℕ) where
     pub trailer-passed : first-refusal (trailer-checks img e) ≡ Granted → load edition-1 img .verdict ≡ first-refusal (part-checks img e)
     trailer-passed g = by-trailer ∙ granted-before (granted-passes (trailer-checks img e) g) (part-checks img e)
 
-  -- a load that is granted: the image is laid out as its trailer says, and its record section is handed back
+  -- a load that is granted: the image is laid out as its trailer says, and its net and its record section are handed back
   pub record Granting : Type 0 where
     pub long : 8 ≤ length img
     pub laid : LaidOut img (trailer-of edition-1 img)
+    pub net : load edition-1 img .net ≡ net-of edition-1 img (trailer-of edition-1 img)
     pub part : load edition-1 img .part ≡ records-of edition-1 img (trailer-of edition-1 img)
 
   pub granting : load edition-1 img .verdict ≡ Granted → Granting
@@ -69,11 +70,15 @@ module _ (img : List ℕ) where
           record {
             long = ltb-false (length img) 8 p1;
             laid = laid-out img (trailer-of edition-1 img) (passes-granted (cons p2 (cons p3 (cons p4 nil))));
+            net = ap (λ (v : Verdict). cond (is-granted v) (net-of edition-1 img (trailer-of edition-1 img)) empty-net) g;
             part = ap (λ (v : Verdict). cond (is-granted v) (records-of edition-1 img (trailer-of edition-1 img)) []) g;
           }
 
   pub laid-by : {e : Trailer} → load edition-1 img .verdict ≡ Granted → e ≡ trailer-of edition-1 img → LaidOut img e
   laid-by g e-is = subst (LaidOut img) (sym e-is) (granting g .laid)
+
+  pub net-by : {e : Trailer} → load edition-1 img .verdict ≡ Granted → e ≡ trailer-of edition-1 img → net-of edition-1 img e ≡ load edition-1 img .net
+  net-by g e-is = ap (net-of edition-1 img) e-is ∙ sym (granting g .net)
 
   -- a refused load gives the empty net, and hands back nothing
   pub no-net : (k : ℕ) → load edition-1 img .verdict ≡ Refused k → load edition-1 img .net ≡ empty-net

@@ -1,25 +1,24 @@
--- The bytes of a transition's record, from the words that hold its sets; and entries of the tables.
+-- The bytes of a transition's record, from the words that hold its sets, and a whole word's eight bytes.
 -- Assumes nothing.
 use Prim.Native.Nat.{ℕ, _*_, _<_, _≤_}
 use native.Mathlib.Omega.{arith}
-use mathlib.Core.Path.{_≡_, refl, sym, subst, _∙_}
-use mathlib.Core.List.{List, [], _∷_, _++_, append-assoc, append-nil}
-use lib.ListN.{length, getD, replicate}
+use mathlib.Core.Path.{_≡_, refl, sym, _∙_}
+use mathlib.Core.List.{List, [], _∷_, _++_, append-assoc}
+use lib.ListN.{length, getD, length-append}
 use lib.Seq.{ext-getD}
-use Rattle.model.specs.Sets.{Set, number, concat-map, equal-lists}
+use Rattle.model.specs.Sets.{Set, number}
 use Rattle.model.specs.Transitions.{Transition}
 use Rattle.model.specs.Image.{set-bytes, record-bytes}
 use Rattle.model.proofs.Masks.{set-byte}
-use Rattle.model.proofs.Sizes.{length-set-bytes, length-record, length-concat-map}
+use Rattle.model.proofs.Sizes.{length-set-bytes}
 use Rattle.sets.specs.Sets.{members, byte-of}
 use Rattle.sets.proofs.Laws.{byte-holds}
-use Rattle.net.specs.Tables.{Holds, Columns, columns, row, blank, Table, Sized}
+use Rattle.net.specs.Tables.{Holds}
 use Rattle.net.specs.declared.tables.Arcs.{Arcs}
-use Rattle.image.specs.Bytes.{agrees, word-bytes, words-of}
-use Rattle.image.proofs.Agrees.{agrees-whole}
+use Rattle.image.specs.Bytes.{put, Spilled, word-bytes}
 
 -- the bytes of a word are those of the set that it is known to hold
-pub set-bytes-hold : (w k : ℕ) {a : ℕ} (f : Set) → a ≡ number w f → 8 * k ≤ w → set-bytes k (members a) ≡ set-bytes k f
+set-bytes-hold : (w k : ℕ) {a : ℕ} (f : Set) → a ≡ number w f → 8 * k ≤ w → set-bytes k (members a) ≡ set-bytes k f
 set-bytes-hold w k {a} f e h =
     let p = length-set-bytes k (members a) in
     ext-getD 0 _ _ (p ∙ sym (length-set-bytes k f))
@@ -29,52 +28,66 @@ pub length-word : (w : ℕ) → length (word-bytes w) ≡ 6
 unfolding word-bytes
 length-word w = length-set-bytes 6 (members w)
 
-pub word-byte : (w i : ℕ) → i < 6 → getD (word-bytes w) i 0 ≡ byte-of i (members w)
-unfolding word-bytes
-word-byte w i h = set-byte 6 (members w) i h
+-- a whole word: its set's bytes, and two more
+unfoldable pub wide-bytes : ℕ → List ℕ
+wide-bytes w = set-bytes 8 (members w)
+
+pub length-wide : (w : ℕ) → length (wide-bytes w) ≡ 8
+unfolding wide-bytes
+length-wide w = length-set-bytes 8 (members w)
+
+pub wide-byte : (w i : ℕ) → i < 8 → getD (wide-bytes w) i 0 ≡ byte-of i (members w)
+unfolding wide-bytes
+wide-byte w i h = set-byte 8 (members w) i h
+
+pub wide-spills : (l : List ℕ) (at w : ℕ) {out : List ℕ} → out ≡ put l at (wide-bytes w) → Spilled l at (word-bytes w) out
+unfolding wide-bytes word-bytes set-bytes
+wide-spills l at w e = record { more = byte-of 6 (members w) ∷ byte-of 7 (members w) ∷ []; few = omega arith; is = e }
 
 word-hold : {a : ℕ} (f : Set) → a ≡ number 64 f → word-bytes a ≡ set-bytes 6 f
 unfolding word-bytes
 word-hold f e = set-bytes-hold 64 6 f e (omega arith)
 
--- a record is the priority, then the words' bytes
-pub record-words : (a : Arcs) (t : Transition) → Holds a t → record-bytes 6 t ≡ (t .priority ∷ []) ++ concat-map word-bytes (words-of a)
+pub length-pair : (a b : ℕ) → length (word-bytes a ++ word-bytes b) ≡ 12
+length-pair a b = omega (arith, length-append (word-bytes a) (word-bytes b), length-word a, length-word b)
+
+-- a record is the priority, then the words' bytes, two words at a time
+pub record-words : (a : Arcs) (t : Transition) → Holds a t
+    → (a .priority ∷ [])
+    ++ (word-bytes (a .takesContext) ++ word-bytes (a .takesPr))
+    ++ (word-bytes (a .takesNot) ++ word-bytes (a .givesContext))
+    ++ (word-bytes (a .givesPr) ++ word-bytes (a .givesNot))
+    ++ (word-bytes (a .inhibContext) ++ word-bytes (a .inhibPr))
+    ≡ record-bytes 6 t
 unfolding record-bytes
 record-words a t h =
-    rw (
-      word-hold _ (h .takesContext),
-      word-hold _ (h .takesPr),
-      word-hold _ (h .takesNot),
-      word-hold _ (h .givesContext),
-      word-hold _ (h .givesPr),
-      word-hold _ (h .givesNot),
-      word-hold _ (h .inhibContext),
-      word-hold _ (h .inhibPr),
-    ) (simp (append-assoc, append-nil))
+    flat (a .priority) (word-bytes (a .takesContext)) (word-bytes (a .takesPr)) (word-bytes (a .takesNot)) (word-bytes (a .givesContext)) (word-bytes (a .givesPr))
+    (word-bytes (a .givesNot)) (word-bytes (a .inhibContext)) (word-bytes (a .inhibPr))
+    ∙ held
+  where
+    flat : (x : ℕ) (b c d e f g i j : List ℕ)
+        → (x ∷ []) ++ (b ++ c) ++ (d ++ e) ++ (f ++ g) ++ (i ++ j) ≡ (x ∷ []) ++ b ++ c ++ d ++ e ++ f ++ g ++ i ++ j
+    flat x b c d e f g i j = simp append-assoc
 
--- entry i of the tables holds transition i
-pub entry-holds : {cols : Columns} {t : ℕ} {ts : List Transition} {a : Arcs} → Table cols t ts → (i : ℕ) → i < t → a ≡ row cols i → Holds a (getD ts i blank)
-entry-holds {ts = ts} table i h e = subst (λ (x : Arcs). Holds x (getD ts i blank)) (sym e) (table .at i h)
-
--- arrays that begin as zeros have their sizes
-pub zeros-sized :
-    let z : List ℕ = replicate 192 0 in
-    Sized (columns z z z z z z z z z)
-zeros-sized =
-    record {
-      priority = refl;
-      takesContext = refl;
-      takesPr = refl;
-      takesNot = refl;
-      givesContext = refl;
-      givesPr = refl;
-      givesNot = refl;
-      inhibContext = refl;
-      inhibPr = refl;
-    }
-
--- as many bytes as the records of these transitions have
-pub records-whole : (l : List ℕ) (ts : List Transition) → length l ≡ 49 * length ts
-    → agrees l 0 (concat-map (record-bytes 6) ts) ≡ equal-lists l (concat-map (record-bytes 6) ts)
-records-whole l ts e =
-    agrees-whole l (concat-map (record-bytes 6) ts) (e ∙ sym (length-concat-map (record-bytes 6) 49 (length-record 6) ts))
+    held : (a .priority ∷ [])
+        ++ word-bytes (a .takesContext)
+        ++ word-bytes (a .takesPr)
+        ++ word-bytes (a .takesNot)
+        ++ word-bytes (a .givesContext)
+        ++ word-bytes (a .givesPr)
+        ++ word-bytes (a .givesNot)
+        ++ word-bytes (a .inhibContext)
+        ++ word-bytes (a .inhibPr)
+        ≡ record-bytes 6 t
+    held =
+        rw (
+          h .priority,
+          word-hold _ (h .takesContext),
+          word-hold _ (h .takesPr),
+          word-hold _ (h .takesNot),
+          word-hold _ (h .givesContext),
+          word-hold _ (h .givesPr),
+          word-hold _ (h .givesNot),
+          word-hold _ (h .inhibContext),
+          word-hold _ (h .inhibPr),
+        ) refl

@@ -1,3 +1,4 @@
 pub mod Bytes
 pub mod Composing
 pub mod Loading
+pub mod Listing

@@ -1,9 +1,13 @@
 // The checks that composing and loading share: refusals 3, 5, 6 and 7.
 ghost use mathlib.Core.Path.{_≡_};
+ghost use mathlib.Core.Bool.{true};
+ghost use mathlib.Core.List.{[]};
 ghost use Prim.Native.Nat.{ℕ, _≤_};
 ghost use lib.ListN.{length};
-ghost use Rattle.model.specs.Refusals.{first-refusal};
+ghost use Rattle.model.specs.Refusals.{first-refusal, is-granted};
 ghost use Rattle.model.specs.Image.{edition-1, bad-sizes, net-checks, given-net};
+ghost use Rattle.net.specs.Reading.{relations-in};
+ghost use Rattle.net.specs.Links.{Linked};
 use crate::limits::MOST_CONTEXTS;
 use crate::limits::MOST_RELATIONS;
 use model::REPEATED_RELATION;
@@ -18,10 +22,11 @@ pub fn wrong_sizes(n: usize, r: usize) -> bool
     (n == 0) | (MOST_CONTEXTS < n) | (MOST_RELATIONS < r)
 }
 
-// Refusals 5, 6 and 7 of a list. Callers have tested its sizes before.
-pub fn judge_list(capacities: &[u8], relations: &[u8]) -> Verdict
+// Refusals 5, 6 and 7 of a list, and what its relations link. Callers have tested its sizes before, and nothing is linked yet.
+pub fn judge_list(capacities: &[u8], relations: &[u8], links: &mut [u64; 240]) -> Verdict
     requires { ⌜ length (now capacities) ≤ 48 ⌝ }
-    ensures { λ v. ⌜ v ≡ first-refusal (net-checks (given-net edition-1 (now (capacities .entry)) (now (relations .entry)))) ⌝ }
+    requires { ⌜ Linked [] (now links) ⌝ }
+    ensures { λ v. ⌜ (v ≡ first-refusal (net-checks (given-net edition-1 (now (capacities .entry)) (now (relations .entry))))) × (is-granted v ≡ true → Linked (relations-in (now (relations .entry))) (now (links .exit))) ⌝ }
 {
     if net::has_zero(capacities) {
         return Verdict::Refused(ZERO_CAPACITY);
@@ -29,7 +34,7 @@ pub fn judge_list(capacities: &[u8], relations: &[u8]) -> Verdict
     if net::misfits(relations, capacities.len()) {
         return Verdict::Refused(WRONG_RELATION);
     }
-    if net::repeated(relations) {
+    if net::link_all(relations, links) {
         return Verdict::Refused(REPEATED_RELATION);
     }
     Verdict::Granted

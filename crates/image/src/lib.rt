@@ -1,15 +1,17 @@
-// The image of a net: composed into a lent buffer, and loaded from lent bytes.
-mod arcs;
+// The image of a net: composed into a lent buffer, loaded from lent bytes, and listed again.
 mod checks;
 mod comparing;
 mod composing;
 mod limits;
+mod listing;
 mod loading;
 mod trailers;
 mod writing;
 
 pub use composing::Composed;
 pub use composing::compose;
+pub use listing::Listed;
+pub use listing::list;
 pub use loading::Loaded;
 pub use loading::check;
 pub use loading::load;

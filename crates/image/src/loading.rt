@@ -7,11 +7,12 @@ ghost use Rattle.model.specs.Refusals.{first-refusal};
 ghost use Rattle.model.specs.Machine.{fresh};
 ghost use Rattle.model.specs.Image.{edition-1, load};
 ghost use Rattle.net.specs.Reading.{relations-in};
+ghost use Rattle.net.specs.Links.{Linked};
 ghost use Rattle.net.specs.Tables.{Composable};
 ghost use Rattle.state.specs.View.{state};
 ghost use Rattle.image.specs.Loading.{Loads, LaidOut, trailer-as, part-checks, differs};
 use crate::checks::judge_list;
-use crate::comparing::same_records;
+use crate::comparing::same_composed;
 use crate::limits::TRAILER_SIZE;
 use crate::trailers::Trailer;
 use crate::trailers::judge_trailer;
@@ -26,49 +27,16 @@ use model::WRONG_RECORDS;
 use state::Engine;
 
 // Refusal 9: n contexts and the relations make another number of transitions, or other records. The list has passed its checks.
-fn other_net(n: usize, relations: &[u8], t: usize, records: &[u8]) -> bool
+fn other_net(n: usize, relations: &[u8], links: &[u64; 240], t: usize, records: &[u8]) -> bool
     requires { ⌜ Composable n (now relations) ⌝ }
+    requires { ⌜ Linked (relations-in (now relations)) (now links) ⌝ }
     requires { ⌜ length (now records) ≡ 49 * t ⌝ }
     ensures { λ b. ⌜ b ≡ differs t n (relations-in (now (relations .entry))) (now (records .entry)) ⌝ }
 {
     if net::count(n, relations) != t {
         return true;
     }
-    let mut priority = [0u8; 192];
-    let mut takesContext = [0u64; 192];
-    let mut takesPr = [0u64; 192];
-    let mut takesNot = [0u64; 192];
-    let mut givesContext = [0u64; 192];
-    let mut givesPr = [0u64; 192];
-    let mut givesNot = [0u64; 192];
-    let mut inhibContext = [0u64; 192];
-    let mut inhibPr = [0u64; 192];
-    net::fill(
-        n,
-        relations,
-        &mut priority,
-        &mut takesContext,
-        &mut takesPr,
-        &mut takesNot,
-        &mut givesContext,
-        &mut givesPr,
-        &mut givesNot,
-        &mut inhibContext,
-        &mut inhibPr,
-    );
-    !same_records(
-        &priority,
-        &takesContext,
-        &takesPr,
-        &takesNot,
-        &givesContext,
-        &givesPr,
-        &givesNot,
-        &inhibContext,
-        &inhibPr,
-        t,
-        records,
-    )
+    !same_composed(records, links, n, relations)
 }
 
 // Refusals 5, 6, 7 and 9 of an image whose layout has been tested: each check gets its part of the image.
@@ -78,10 +46,17 @@ fn judge_parts(image: &[u8], trailer: Trailer) -> Verdict
 {
     let n = wide(trailer.n);
     let relations = relation_part(image, trailer);
-    if let Verdict::Refused(k) = judge_list(&image[..n], relations) {
+    let mut links = [0u64; 240];
+    if let Verdict::Refused(k) = judge_list(&image[..n], relations, &mut links) {
         return Verdict::Refused(k);
     }
-    if other_net(n, relations, wide(trailer.t), record_part(image, trailer)) {
+    if other_net(
+        n,
+        relations,
+        &links,
+        wide(trailer.t),
+        record_part(image, trailer),
+    ) {
         return Verdict::Refused(WRONG_RECORDS);
     }
     Verdict::Granted

@@ -1,18 +1,18 @@
 -- When a relation is the same as an earlier one, by what the earlier ones link.
 -- Assumes nothing.
-use Prim.Native.Nat.{ℕ, _+_, _<_}
-use native.Mathlib.Omega.{arith}
+use Prim.Native.Nat.{ℕ, _+_}
+use native.Mathlib.Decide.{ℕ-discrete}
 use mathlib.Core.Bool.{Bool, true, false, _&&_, _||_}
-use mathlib.Core.Path.{_≡_, refl, ap, ap₂, _∙_}
+use mathlib.Core.Path.{_≡_, refl, sym, ap, ap₂, _∙_}
 use mathlib.Core.List.{List, [], _∷_, _++_}
 use lib.Dec.{eqb}
 use borrow.Author.Tests.{ne-eqb}
 use Rattle.sets.proofs.Laws.{or-false}
 use Rattle.model.specs.Sets.{any}
 use Rattle.model.specs.Relations.{Relation, same, matches, related, excluded, excludes, repeats, repeats-after}
-use Rattle.model.proofs.Tests.{or-left, or-right, or-none}
 use Rattle.net.specs.Reading.{relation, relation-at, first-relations}
-use Rattle.net.proofs.Reading.{first-more, still}
+use Rattle.net.proofs.Reading.{first-more}
+use Rattle.net.specs.Links.{ends}
 use Rattle.net.proofs.Linking.{eqb-sym, and-comm}
 
 -- tests that agree at each relation, and a test that is one of two
@@ -36,7 +36,7 @@ and-ends false q r = refl
 
 module _ (k a b : ℕ) where
   -- a relation that is no exclusion is the same as one with its kind and ends
-  pub same-plain : (k ≡ excludes → ⊥) → (rels : List Relation) → any (same (relation k a b)) rels ≡ related rels k a b
+  same-plain : (k ≡ excludes → ⊥) → (rels : List Relation) → any (same (relation k a b)) rels ≡ related rels k a b
   unfolding related same matches
   same-plain d rels =
       any-same (same (relation k a b)) (matches k a b)
@@ -44,7 +44,7 @@ module _ (k a b : ℕ) where
       rels
 
 -- an exclusion is the same as one with its ends in either order
-pub same-exclusion : (a b : ℕ) (rels : List Relation) → any (same (relation excludes a b)) rels ≡ excluded rels a b
+same-exclusion : (a b : ℕ) (rels : List Relation) → any (same (relation excludes a b)) rels ≡ excluded rels a b
 unfolding excluded related same matches
 same-exclusion a b rels =
     any-same (same (relation excludes a b)) (λ s. matches excludes a b s || matches excludes b a s)
@@ -52,6 +52,15 @@ same-exclusion a b rels =
     (ap (λ (t : Bool). (eqb (s .kind) excludes && eqb (s .a) a && eqb (s .b) b) || t) (and-ends (eqb (s .kind) excludes) (eqb (s .b) a) (eqb (s .a) b))))
     rels
     ∙ any-either (matches excludes a b) (matches excludes b a) rels
+
+-- in either case, where its second end is in the word of its kind and first end
+pub same-linked : (k a b : ℕ) (rels : List Relation) → ends rels k a b ≡ any (same (relation k a b)) rels
+unfolding ends
+same-linked k a b rels = go (ℕ-discrete k excludes)
+  where
+    go : Dec (k ≡ excludes) → ends rels k a b ≡ any (same (relation k a b)) rels
+    go (yes e) = rw e (sym (same-exclusion a b rels))
+    go (no d) = rw (ne-eqb k excludes d) (sym (same-plain k a b d rels))
 
 or-late : (p q s t u : Bool) → (p || (q || ((s || t) || u))) ≡ ((p || q) || (t || (s || u)))
 or-late true q s t u = refl
@@ -68,16 +77,7 @@ after-snoc earlier (s ∷ rels) r =
     ap (λ (t : Bool). any (same s) earlier || t) (after-snoc (s ∷ earlier) rels r)
     ∙ or-late (any (same s) earlier) (repeats-after (s ∷ earlier) rels) (same r s) (any (same r) earlier) (any (same r) rels)
 
-module _ (bs : List ℕ) (i : ℕ) where
-  one-more : repeats (first-relations (i + 1) bs) ≡ (repeats (first-relations i bs) || any (same (relation-at bs i)) (first-relations i bs))
-  one-more = ap repeats (first-more i bs) ∙ after-snoc [] (first-relations i bs) (relation-at bs i)
-
-  -- relation i is none of the earlier ones, or it is one
-  pub repeats-none : repeats (first-relations i bs) ≡ false → any (same (relation-at bs i)) (first-relations i bs) ≡ false
-      → repeats (first-relations (i + 1) bs) ≡ false
-  repeats-none p q = one-more ∙ or-none p q
-
-  pub repeats-hit : (r : ℕ) → i < r → any (same (relation-at bs i)) (first-relations i bs) ≡ true → repeats (first-relations r bs) ≡ true
-  repeats-hit r h e =
-      still repeats (λ xs x t. after-snoc [] xs x ∙ or-left (any (same x) xs) t) bs (i + 1) r (omega arith)
-      (one-more ∙ or-right (repeats (first-relations i bs)) e)
+-- one relation more of those that bytes hold
+pub repeats-more : (bs : List ℕ) (i : ℕ)
+    → repeats (first-relations (i + 1) bs) ≡ (repeats (first-relations i bs) || any (same (relation-at bs i)) (first-relations i bs))
+repeats-more bs i = ap repeats (first-more i bs) ∙ after-snoc [] (first-relations i bs) (relation-at bs i)

@@ -1,17 +1,25 @@
--- How arrays of 48 words are read: word x holds the contexts that relations of one kind link with context x.
+-- How one array of words holds what the relations link: a row of 48 words for each kind, in it a word for each context.
 -- Assumes nothing.
-use Prim.Native.Nat.{ℕ}
+use Prim.Native.Nat.{ℕ, _+_, _*_, _/_, _%_}
+use mathlib.Core.Bool.{cond}
 use mathlib.Core.List.{List}
+use lib.Dec.{eqb}
 use Rattle.sets.specs.Sets.{Rows}
-use Rattle.model.specs.Relations.{Relation, related, excluded, causes, implies, requires}
+use Rattle.model.specs.Sets.{Set}
+use Rattle.model.specs.Relations.{Relation, related, excluded, excludes}
 
--- the contexts that x causes, and those that it implies: together what x asks on, and off
-pub record Asks (rels : List Relation) (c i : List ℕ) : Type 0 where
-  pub causality : Rows 64 48 c (related rels causes)
-  pub implication : Rows 64 48 i (related rels implies)
+-- the word of a kind and a context; the row of kind 0 is not used
+abbrev pub word-of : (kind a : ℕ) → ℕ
+word-of k a = 48 * k + a
 
--- and those that exclusions pair with x, and that x requires
-pub record Linked (rels : List Relation) (e c i r : List ℕ) : Type 0 where
-  pub exclusion : Rows 64 48 e (excluded rels)
-  pub asked : Asks rels c i
-  pub requirement : Rows 64 48 r (related rels requires)
+-- the contexts that relations of a kind link with a: an exclusion links both ways
+unfoldable pub ends : List Relation → (kind a : ℕ) → Set
+ends rels k a = cond (eqb k excludes) (excluded rels a) (related rels k a)
+
+-- each word holds the set of its kind and its context
+abbrev pub Grid : List ℕ → ((kind a : ℕ) → Set) → Type 0
+Grid words G = Rows 64 240 words (λ i. G (i / 48) (i % 48))
+
+-- and these are the sets that the relations link
+abbrev pub Linked : List Relation → List ℕ → Type 0
+Linked rels words = Grid words (ends rels)

@@ -3,7 +3,7 @@
 use Prim.Native.Nat.{ℕ, _+_, _<_, _≤_}
 use mathlib.Core.Bool.{false}
 use mathlib.Core.Path.{_≡_}
-use mathlib.Core.List.{List, _++_}
+use mathlib.Core.List.{List, [], _∷_, _++_}
 use lib.ListN.{length, getD, set}
 use Rattle.model.specs.Sets.{number, empty-set, any}
 use Rattle.model.specs.Relations.{misfit}
@@ -23,6 +23,12 @@ pub record Holds (a : Arcs) (t : Transition) : Type 0 where
   pub givesNot : a .givesNot ≡ number 64 (t .givesNot)
   pub inhibContext : a .inhibContext ≡ number 64 (t .inhibContext)
   pub inhibPr : a .inhibPr ≡ number 64 (t .inhibPr)
+
+-- the words are those of the only transition of a list
+pub record HoldsOne (a : Arcs) (ts : List Transition) : Type 0 where
+  pub one : Transition
+  pub alone : ts ≡ one ∷ []
+  pub holds : Holds a one
 
 -- the contents of the nine arrays
 pub record Columns : Type 0 where

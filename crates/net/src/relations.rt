@@ -58,7 +58,7 @@ fn misfit(k: u8, a: usize, b: usize, n: usize) -> bool
     }
 }
 
-// Refusal 6: a relation has a kind outside 1 to 4, an end not below n, or equal ends.
+// Refusal 6 of a list: one of its relations does not fit n contexts.
 pub fn misfits(relations: &[u8], n: usize) -> bool
     ensures { λ r. ⌜ r ≡ any (misfit n) (relations-in (now (relations .entry))) ⌝ }
 {

@@ -1,4 +1,4 @@
-// The transitions of a net, one by one, from the words of what its relations link.
+// One transition, from its sets.
 ghost use mathlib.Core.Path.{_≡_};
 ghost use mathlib.Core.List.{List};
 ghost use Prim.Native.Nat.{_<_};

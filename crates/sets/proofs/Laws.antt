@@ -232,6 +232,9 @@ module _ (w : ℕ) {a b : ℕ} (f g : Set) (ha : a ≡ number w f) (hb : b ≡ n
   pub or-holds : bitOr a b ≡ number w (union f g)
   or-holds = ap₂ bitOr ha hb ∙ sym (number-or w f g)
 
+  pub and-holds : bitAnd a b ≡ number w (common f g)
+  and-holds = ap₂ bitAnd ha hb ∙ sym (number-and w f g)
+
   pub minus-holds : bitAnd a (2 ^ w - 1 - b) ≡ number w (minus f g)
   minus-holds =
       ap₂ (λ (x y : ℕ). bitAnd x (2 ^ w - 1 - y)) ha hb ∙ ap (bitAnd (number w f)) (sym (number-not w g))
@@ -243,7 +246,7 @@ module _ (w : ℕ) {a b : ℕ} (f g : Set) (ha : a ≡ number w f) (hb : b ≡ n
   pub apart-holds : eqb (bitAnd a b) 0 ≡ apart w f g
   apart-holds = ap₂ (λ (x y : ℕ). eqb (bitAnd x y) 0) ha hb ∙ test-apart w f g
 
--- 0 holds the empty-set set
+-- 0 holds the empty set
 pub zero-holds : (w : ℕ) → 0 ≡ number w empty-set
 zero-holds w = sym (number-empty w)
 

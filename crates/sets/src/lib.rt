@@ -2,7 +2,7 @@
 ghost use mathlib.Core.Path.{_≡_};
 ghost use Prim.Native.Nat.{ℕ, _<_, _≤_};
 ghost use Rattle.model.specs.Sets.{singleton, number};
-ghost use Rattle.sets.specs.Sets.{members, union, minus, insert, remove, within, apart, byte-of, Least};
+ghost use Rattle.sets.specs.Sets.{members, union, common, minus, insert, remove, within, apart, byte-of, Least};
 
 // The set of c alone.
 pub fn singleton(c: usize) -> u64
@@ -30,6 +30,13 @@ pub fn union(a: u64, b: u64) -> u64
     ensures { λ r. ⌜ r ≡ number 64 (union (members a) (members b)) ⌝ }
 {
     a | b
+}
+
+// The members that a and b have in common.
+pub fn intersection(a: u64, b: u64) -> u64
+    ensures { λ r. ⌜ r ≡ number 64 (common (members a) (members b)) ⌝ }
+{
+    (a & b)
 }
 
 // The members of a that are not in b.

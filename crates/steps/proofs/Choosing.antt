@@ -1,7 +1,7 @@
 -- Of a net's transitions the walk finds the one that fires next.
 -- Assumes nothing.
 use Prim.Native.Nat.{ℕ, zero, suc, _+_, _*_, _/_, _≤_, _<_}
-use mathlib.Core.Bool.{Bool, true, false, _&&_, not}
+use mathlib.Core.Bool.{Bool, true, false, _&&_, _||_, not}
 use mathlib.Core.Path.{_≡_, refl, sym, ap, ap₂, subst, _∙_}
 use mathlib.Core.Logic.{inl, inr}
 use mathlib.Core.List.{List, [], _∷_}
@@ -12,20 +12,21 @@ use native.Mathlib.Omega.{arith}
 use borrow.Author.Tests.{lt-ltb, eq-eqb, eqb-true, le-leb, leb-true}
 use lib.Dec.{eqb, leb}
 use lib.ListN.{length, getD, getElem?}
-use Rattle.sets.specs.Sets.{members, union, upto}
+use Rattle.sets.specs.Sets.{members, upto}
 use Rattle.sets.proofs.Laws.{contained, same-bool}
-use Rattle.model.specs.Sets.{Set, _⇒_}
-use Rattle.model.specs.Relations.{Net, size}
+use Rattle.model.specs.Sets.{Set, number, _⇒_}
+use Rattle.model.specs.Relations.{Net, size, related, requires}
 use Rattle.model.specs.Transitions.{Transition, act, deac, transitions}
 use Rattle.model.specs.Firing.{Marking, holds-token, is-empty, ready-at, ready, next, first}
 use Rattle.model.specs.Claims.{Fits}
 use Rattle.model.proofs.Tests.{and-right, and-both, or-left, or-right, imp-use, six, below-at, each-getD}
+use Rattle.model.proofs.Ready.{related-ends}
 use Rattle.model.proofs.Bounds.{bounded}
 use Rattle.model.proofs.Numbering.{act-number, deac-number}
 use Rattle.model.proofs.Walks.{two-priorities, urgent, next-urgent, next-other}
 use Rattle.net.specs.Tables.{Columns, row, blank, Table}
 use Rattle.steps.specs.Markings.{Shows}
-use Rattle.steps.specs.Walks.{ready-row, urgent-row, asked-at, Finds, Prefers, Fires, Chooses}
+use Rattle.steps.specs.Walks.{ready-row, urgent-row, movable, asked-at, Finds, Prefers, Fires, Chooses}
 use Rattle.steps.specs.declared.Marked.{Marked}
 use Rattle.steps.specs.declared.Found.{Found}
 use Rattle.steps.specs.declared.Found.the-variants.{At, Nothing}
@@ -53,15 +54,16 @@ some-at [] i u e = absurd (Option·none-ne-some u e)
 some-at (v ∷ ts) zero u e = (omega arith, Option·some-injective v u e)
 some-at (v ∷ ts) (suc i) u e = let h = some-at ts i u e in let k = h .0 in (omega arith, h .1)
 
--- what is ready has tokens on the temporary places that it takes
+-- what is ready has tokens on the places that it takes, and room where it gives without taking
 module _ (n : ℕ) (spare : Set) (m : Marking) (t : Transition) (e : ready n spare m t ≡ true) (c : ℕ) (h : c < n) where
   takes-at : (t .takesPr c ≡ true → holds-token (m .pr) c ≡ true) × (t .takesNot c ≡ true → holds-token (m .prNot) c ≡ true)
+      × (t .takesContext c ≡ true → holds-token (m .count) c ≡ true) × ((t .givesContext c && not (t .takesContext c)) ≡ true → spare c ≡ true)
   unfolding ready ready-at
   takes-at =
       let q = six (t .takesContext c ⇒ holds-token (m .count) c) (t .takesPr c ⇒ holds-token (m .pr) c) (t .takesNot c ⇒ holds-token (m .prNot) c)
       (t .inhibContext c ⇒ is-empty (m .count) c) (t .inhibPr c ⇒ is-empty (m .pr) c) ((t .givesContext c && not (t .takesContext c)) ⇒ spare c)
       (below-at n (ready-at spare m t) e c h) in
-      (imp-use (t .takesPr c) (holds-token (m .pr) c) (q .1), imp-use (t .takesNot c) (holds-token (m .prNot) c) (q .2))
+      (imp-use (t .takesPr c) (holds-token (m .pr) c) (q .1), imp-use (t .takesNot c) (holds-token (m .prNot) c) (q .2), imp-use (t .takesContext c) (holds-token (m .count) c) (q .0), imp-use (t .givesContext c && not (t .takesContext c)) (spare c) (q .5))
 
 module _ (net : Net) (fits : Fits net) (few : size net ≤ 48) {t : ℕ} {cols : Columns} (tab : Table cols t (transitions net)) {spare : Set} {m : Marking} {s : Marked}
     (sh : Shows (size net) spare m s) where
@@ -80,18 +82,34 @@ module _ (net : Net) (fits : Fits net) (few : size net ≤ 48) {t : ℕ} {cols :
       passes-ready n (omega arith) spare m s sh (row cols i) (getD ts i blank) (tab .at i h)
       (each-getD (bounded net fits) i blank (omega (arith, tab .count)))
 
-  -- the temporary places of a context, where they hold a token
-  in-pr : (c : ℕ) → c < n → holds-token (m .pr) c ≡ true → union (members (s .pr)) (members (s .prNot)) c ≡ true
-  in-pr c h e = or-left (members (s .prNot) c) (contained 64 (upto n (holds-token (m .pr))) (sh .pr) c (omega arith) ∙ and-both (lt-ltb c n h) e)
+  -- a context's places, where they hold a token, and the context itself, where it has room
+  in-word : {w : ℕ} (f : Set) → w ≡ number 64 (upto n f) → (c : ℕ) → c < n → f c ≡ true → members w c ≡ true
+  in-word f q c h e = contained 64 (upto n f) q c (omega arith) ∙ and-both (lt-ltb c n h) e
 
-  in-not : (c : ℕ) → c < n → holds-token (m .prNot) c ≡ true → union (members (s .pr)) (members (s .prNot)) c ≡ true
-  in-not c h e = or-right (members (s .pr) c) (contained 64 (upto n (holds-token (m .prNot))) (sh .prNot) c (omega arith) ∙ and-both (lt-ltb c n h) e)
+  may-rise : (c : ℕ) → c < n → holds-token (m .pr) c ≡ true → spare c ≡ true → movable s c ≡ true
+  unfolding movable
+  may-rise c h e f =
+      or-left (members (s .prNot) c && members (s .context) c) (and-both (in-word (holds-token (m .pr)) (sh .pr) c h e) (in-word spare (sh .spare) c h f))
 
-  -- a transition of context c: it stands in the list, is of priority 2, and where it is ready a temporary place of c holds a token
+  may-fall : (c : ℕ) → c < n → holds-token (m .prNot) c ≡ true → holds-token (m .count) c ≡ true → movable s c ≡ true
+  unfolding movable
+  may-fall c h e f =
+      or-right (members (s .pr) c && members (s .spare) c) (and-both (in-word (holds-token (m .prNot)) (sh .prNot) c h e) (in-word (holds-token (m .count)) (sh .context) c h f))
+
+  -- act(c) does not take the token that it gives to c: nothing requires itself
+  gives-only : (c : ℕ) → (act (net .rels) c .givesContext c && not (act (net .rels) c .takesContext c)) ≡ true
+  unfolding act
+  gives-only c = go (related (net .rels) requires c c) refl
+    where
+      go : (b : Bool) → related (net .rels) requires c c ≡ b → ((eqb c c || related (net .rels) requires c c) && not (related (net .rels) requires c c)) ≡ true
+      go true e = absurd (related-ends net fits requires c c e .differ refl)
+      go false e = rw (e, eq-eqb c c refl)
+
+  -- a transition of context c: it stands in the list, is of priority 2, and where it is ready c is one of the contexts that are looked at
   record Own (c i : ℕ) : Type 0 where
     inside : i < length ts
     high : getD ts i blank .priority ≡ 2
-    asked : ready-here (getD ts i blank) ≡ true → union (members (s .pr)) (members (s .prNot)) c ≡ true
+    asked : ready-here (getD ts i blank) ≡ true → movable s c ≡ true
 
   act-own : (c : ℕ) → c < n → Own c (2 * c)
   unfolding act
@@ -100,7 +118,7 @@ module _ (net : Net) (fits : Fits net) (few : size net ≤ 48) {t : ℕ} {cols :
       record {
         inside = p .0;
         high = ap (λ (u : Transition). u .priority) (p .1);
-        asked = λ e. in-pr c h (takes-at n spare m (act (net .rels) c) (subst (λ (u : Transition). ready-here u ≡ true) (p .1) e) c h .0 (eq-eqb c c refl));
+        asked = λ e. let k = takes-at n spare m (act (net .rels) c) (subst (λ (u : Transition). ready-here u ≡ true) (p .1) e) c h in may-rise c h (k .0 (eq-eqb c c refl)) (k .3 (gives-only c));
       }
 
   deac-own : (c : ℕ) → c < n → Own c (2 * c + 1)
@@ -110,7 +128,7 @@ module _ (net : Net) (fits : Fits net) (few : size net ≤ 48) {t : ℕ} {cols :
       record {
         inside = p .0;
         high = ap (λ (u : Transition). u .priority) (p .1);
-        asked = λ e. in-not c h (takes-at n spare m (deac (net .rels) c) (subst (λ (u : Transition). ready-here u ≡ true) (p .1) e) c h .1 (eq-eqb c c refl));
+        asked = λ e. let k = takes-at n spare m (deac (net .rels) c) (subst (λ (u : Transition). ready-here u ≡ true) (p .1) e) c h in may-fall c h (k .1 (eq-eqb c c refl)) (k .2 (eq-eqb c c refl));
       }
 
   own : (i : ℕ) → i < 2 * n → Own (i / 2) i
@@ -126,7 +144,7 @@ module _ (net : Net) (fits : Fits net) (few : size net ≤ 48) {t : ℕ} {cols :
       let o = own i h in
       let q = row-ready i (omega (arith, o .inside, tab .count)) in
       same-bool (asked-at cols s i) (ready-here (getD ts i blank))
-      (λ e. sym q ∙ and-right (union (members (s .pr)) (members (s .prNot)) (i / 2)) (ready-row cols s i) e)
+      (λ e. sym q ∙ and-right (movable s (i / 2)) (ready-row cols s i) e)
       (λ e. and-both (o .asked e) (q ∙ e))
 
   abbrev urgent-here : Transition → Bool

@@ -9,12 +9,12 @@ use native.Mathlib.Omega.{arith}
 use borrow.Author.Tests.{lt-ltb, le-ltb, le-leb, lt-leb}
 use lib.Dec.{ltb, leb}
 use lib.ListN.{getD}
-use Rattle.sets.specs.Sets.{members, union, Least}
+use Rattle.sets.specs.Sets.{members, Least}
 use Rattle.sets.proofs.Laws.{contained}
 use Rattle.model.specs.Sets.{number}
 use Rattle.model.proofs.Tests.{and-both, and-left, and-right}
 use Rattle.net.specs.Tables.{Columns}
-use Rattle.steps.specs.Walks.{ready-row, urgent-row, asked-at, Finds, Prefers, Passing}
+use Rattle.steps.specs.Walks.{ready-row, urgent-row, movable, asked-at, Finds, Prefers, Passing}
 use Rattle.steps.specs.declared.Marked.{Marked}
 use Rattle.steps.specs.declared.Found.{Found}
 use Rattle.steps.specs.declared.Found.the-variants.{At, Nothing}
@@ -43,15 +43,15 @@ module _ (f : ℕ → Bool) (a e : ℕ) where
   unfolding Finds
   finds-none i h p j l m = p j l m (omega arith)
 
--- the two transitions of each context with a token on a temporary place
-module _ (cols : Columns) (s : Marked) (n : ℕ) (few : n ≤ 48) {asked : ℕ} (e : asked ≡ number 64 (union (members (s .pr)) (members (s .prNot)))) where
+-- the two transitions of each context where one may be ready
+module _ (cols : Columns) (s : Marked) (n : ℕ) (few : n ≤ 48) {asked : ℕ} (e : asked ≡ number 64 (movable s)) where
   abbrev test : ℕ → Bool
   test = asked-at cols s
 
   pub asked-is : (c j : ℕ) → c < 64 → j / 2 ≡ c → test j ≡ (members asked c && ready-row cols s j)
   asked-is c j h q =
-      ap (λ (x : ℕ). union (members (s .pr)) (members (s .prNot)) x && ready-row cols s j) q
-      ∙ ap (λ (b : Bool). b && ready-row cols s j) (sym (contained 64 (union (members (s .pr)) (members (s .prNot))) e c h))
+      ap (λ (x : ℕ). movable s x && ready-row cols s j) q
+      ∙ ap (λ (b : Bool). b && ready-row cols s j) (sym (contained 64 (movable s) e c h))
 
   -- a context that is passed over
   skipped : (c r j : ℕ) → Least 64 (members asked) c r → c ≤ j / 2 → j / 2 < r → j < 2 * n → test j ≡ false
@@ -166,7 +166,7 @@ module _ (cols : Columns) (s : Marked) where
   unfolding Finds Passing
   own-passing n i h f =
       let k = f .1 in
-      (omega arith, and-right (union (members (s .pr)) (members (s .prNot)) (i / 2)) (ready-row cols s i) (f .2))
+      (omega arith, and-right (movable s (i / 2)) (ready-row cols s i) (f .2))
 
   pub extra-passing : (a t : ℕ) (r : Found) → t ≤ 192 → Prefers r a t (urgent-row cols s) (ready-row cols s) → Passing r cols s
   unfolding Finds Prefers Passing

@@ -8,7 +8,7 @@ use mathlib.Core.List.{List}
 use mathlib.Core.Option.{none, some}
 use lib.Dec.{leb}
 use lib.ListN.{length, getD}
-use Rattle.sets.specs.Sets.{members, union, minus, within, apart}
+use Rattle.sets.specs.Sets.{members, union, common, minus, within, apart}
 use Rattle.model.specs.Sets.{Set}
 use Rattle.model.specs.Relations.{Net, size}
 use Rattle.model.specs.Transitions.{Transition, transitions}
@@ -51,9 +51,13 @@ ready-row cols s i = passes (row cols i) s
 abbrev pub urgent-row : Columns → Marked → ℕ → Bool
 urgent-row cols s i = ready-row cols s i && leb 2 (getD (cols .priority) i 0)
 
--- transition i is ready, and a temporary place of the context whose number is half of i, rounded down, holds a token
+-- The contexts whose own transitions may be ready: c has a token on Pr(c) and stands below its capacity, or has one on Pr(¬c) and is active.
+unfoldable pub movable : Marked → Set
+movable s = union (common (members (s .pr)) (members (s .spare))) (common (members (s .prNot)) (members (s .context)))
+
+-- transition i is ready, and the context whose number is half of i, rounded down, is one of those
 abbrev pub asked-at : Columns → Marked → ℕ → Bool
-asked-at cols s i = union (members (s .pr)) (members (s .prNot)) (i / 2) && ready-row cols s i
+asked-at cols s i = movable s (i / 2) && ready-row cols s i
 
 -- the lowest number from a on, below e, that passes the test; or that there is none
 unfoldable pub Finds : Found → ℕ → ℕ → (ℕ → Bool) → Type 0

@@ -1,4 +1,4 @@
-// The step: enabled transitions fire until none is enabled or the limit is met.
+// The step: transitions fire one by one, to the end or to the limit.
 ghost use mathlib.Core.Path.{_≡_};
 ghost use Prim.Native.Nat.{_<_};
 ghost use Rattle.net.specs.Tables.{columns};

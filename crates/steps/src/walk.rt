@@ -4,8 +4,9 @@ ghost use mathlib.Core.Bool.{cond};
 ghost use Prim.Native.Nat.{_+_, _*_, _<_, _≤_};
 ghost use lib.Dec.{ltb};
 ghost use lib.ListN.{getD};
+ghost use Rattle.model.specs.Sets.{number};
 ghost use Rattle.net.specs.Tables.{columns};
-ghost use Rattle.steps.specs.Walks.{passes-first, passes-last, ready-row, urgent-row, asked-at, Finds, Prefers, Chooses};
+ghost use Rattle.steps.specs.Walks.{passes-first, passes-last, ready-row, urgent-row, movable, asked-at, Finds, Prefers, Chooses};
 use crate::Found;
 use crate::Marked;
 
@@ -72,8 +73,19 @@ fn ready_at<'a>(
     )
 }
 
-// The first ready one of the activations and deactivations, act(c) at 2c and deac(c) behind it. Each takes a token from a
-// temporary place of its context, so a context with none is passed over.
+// The contexts whose own transitions may be ready: act(c) takes a token from Pr(c) and needs room at c, deac(c) takes one from
+// Pr(¬c) and one from c.
+fn movable(marks: Marked) -> u64
+    ensures { λ r. ⌜ r ≡ number 64 (movable marks) ⌝ }
+{
+    sets::union(
+        sets::intersection(marks.pr, marks.spare),
+        sets::intersection(marks.prNot, marks.context),
+    )
+}
+
+// The first ready one of the activations and deactivations, act(c) at 2c and deac(c) behind it. A context where neither may be
+// ready is passed over.
 fn first_asked<'a>(
     priority: &'a [u8; 192],
     takesContext: &'a [u64; 192],
@@ -90,7 +102,7 @@ fn first_asked<'a>(
     requires { ⌜ n ≤ 48 ⌝ }
     ensures { λ r. ⌜ Finds r 0 (2 * n) (asked-at (columns (now (priority .entry)) (now (takesContext .entry)) (now (takesPr .entry)) (now (takesNot .entry)) (now (givesContext .entry)) (now (givesPr .entry)) (now (givesNot .entry)) (now (inhibContext .entry)) (now (inhibPr .entry))) marks) ⌝ }
 {
-    let asked = sets::union(marks.pr, marks.prNot);
+    let asked = movable(marks);
     let mut c = sets::member_from(asked, 0);
     while c < n {
         let act = 2 * c;

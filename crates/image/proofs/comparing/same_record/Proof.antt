@@ -1,16 +1,14 @@
--- The priority's byte, and behind it those of the words, are compared with the record of the transition that the words hold.
-use Prim.Native.Nat.{ℕ, _+_}
+-- The priority's byte, and behind it the words two by two, are compared with the record of the transition that the words hold.
+use Prim.Native.Nat.{ℕ}
 use native.Mathlib.Omega.{arith}
-use mathlib.Core.Path.{sym, ap, ap₂, _∙_}
-use mathlib.Core.Bool.{Bool, _&&_}
-use mathlib.Core.List.{List, [], _∷_}
+use mathlib.Core.Path.{_≡_, refl, sym, ap, _∙_}
+use mathlib.Core.List.{List, [], _∷_, _++_}
 use denote.Ref.{now}
-use lib.Dec.{eqb}
-use lib.ListN.{getD}
-use Rattle.model.specs.Sets.{concat-map}
-use Rattle.image.specs.Bytes.{agrees, word-bytes, words-of}
-use Rattle.image.proofs.Agrees.{agrees-one, agrees-append}
-use Rattle.image.proofs.Words.{record-words}
+use lib.ListN.{length, length-append}
+use Rattle.net.specs.declared.tables.Arcs.{Arcs}
+use Rattle.image.specs.Bytes.{agrees, word-bytes}
+use Rattle.image.proofs.Agrees.{agrees-one, agrees-next}
+use Rattle.image.proofs.Words.{length-pair, record-words}
 use borrow.Author.Needs.{needs}
 use Rattle.image.proofs.comparing.same_record.Statement.{statement}
 use Rattle.image.proofs.comparing.same_record.Tie as tie
@@ -18,26 +16,71 @@ use Rattle.image.proofs.comparing.same_record.Tie as tie
 shared-slice-read-result : tie.Need-shared-slice-read-result
 shared-slice-read-result c = search needs
 
-add-same-sets : tie.Need-add-same-sets
-add-same-sets c = search needs
+add-same-pair : tie.Need-add-same-pair
+add-same-pair c = search needs
 
-words-requires : tie.Need-words-requires
-words-requires c κs = search needs
+same-pair-requires : tie.Need-same-pair-requires
+same-pair-requires c κs = search needs
 
-same-sets-requires : tie.Need-same-sets-requires
-same-sets-requires c κs = search needs
+add-same-pair-2 : tie.Need-add-same-pair-2
+add-same-pair-2 c = search needs
+
+same-pair-requires-2 : tie.Need-same-pair-requires-2
+same-pair-requires-2 c κs = search needs
+
+add-same-pair-3 : tie.Need-add-same-pair-3
+add-same-pair-3 c = search needs
+
+same-pair-requires-3 : tie.Need-same-pair-requires-3
+same-pair-requires-3 c κs = search needs
+
+add-same-pair-4 : tie.Need-add-same-pair-4
+add-same-pair-4 c = search needs
+
+same-pair-requires-4 : tie.Need-same-pair-requires-4
+same-pair-requires-4 c κs = search needs
 
 returns : tie.Need-returns
 returns c t h =
-    let a = c .before .before .before .before .before .args in
+    let p3 = c .before in
+    let p2 = p3 .before in
+    let p1 = p2 .before in
+    let s = p1 .before .before .before .before in
+    let a = s .args in
     let l = now (a .bytes) in
-    let ws = concat-map word-bytes (words-of (a .arcs)) in
-    ap₂ (λ (x y : Bool). x && y)
-    (ap (eqb (getD l (a .at) 0)) (h .priority) ∙ sym (agrees-one l (a .at) (t .priority) (omega arith)))
-    (c .same-sets .ensures ∙ ap (λ (ws : List ℕ). agrees l (a .at + 1) (concat-map word-bytes ws)) (c .before .words .ensures))
-    ∙ sym (ap (agrees l (a .at)) (record-words (a .arcs) t h) ∙ agrees-append l (a .at) (t .priority ∷ []) ws (omega arith))
+    let room = s .pre in
+    let x : Arcs = a .arcs in
+    let b1 : List ℕ = word-bytes (x .takesContext) ++ word-bytes (x .takesPr) in
+    let b2 : List ℕ = word-bytes (x .takesNot) ++ word-bytes (x .givesContext) in
+    let b3 : List ℕ = word-bytes (x .givesPr) ++ word-bytes (x .givesNot) in
+    let b4 : List ℕ = word-bytes (x .inhibContext) ++ word-bytes (x .inhibPr) in
+    let s0 : List ℕ = x .priority ∷ [] in
+    let m1 : length b1 ≡ 12 = length-pair (x .takesContext) (x .takesPr) in
+    let m2 : length b2 ≡ 12 = length-pair (x .takesNot) (x .givesContext) in
+    let m3 : length b3 ≡ 12 = length-pair (x .givesPr) (x .givesNot) in
+    let n1 : length (s0 ++ b1) ≡ 13 = omega (arith, length-append s0 b1, m1) in
+    let n2 : length (s0 ++ b1 ++ b2) ≡ 25 = omega (arith, length-append (s0 ++ b1) b2, n1, m2) in
+    let n3 : length (s0 ++ b1 ++ b2 ++ b3) ≡ 37 = omega (arith, length-append (s0 ++ b1 ++ b2) b3, n2, m3) in
+    agrees-next l (a .at) 37 (s0 ++ b1 ++ b2 ++ b3) b4
+    (agrees-next l (a .at) 25 (s0 ++ b1 ++ b2) b3
+    (agrees-next l (a .at) 13 (s0 ++ b1) b2
+    (agrees-next l (a .at) 1 s0 b1 (sym (agrees-one l (a .at) (x .priority) (omega (arith, room)))) refl (omega (arith, room)) (p1 .same-pair .ensures))
+    n1 (omega (arith, room)) (p2 .same-pair2 .ensures))
+    n2 (omega (arith, room)) (p3 .same-pair3 .ensures))
+    n3 (omega (arith, room)) (c .same-pair4 .ensures)
+    ∙ ap (agrees l (a .at)) (record-words x t h)
 
 pub same-record-spec : {M : Type 1} → statement M
 same-record-spec =
     tie.close
-    (tie.spec shared-slice-read-result add-same-sets words-requires same-sets-requires returns)
+    (tie.spec
+    shared-slice-read-result
+    add-same-pair
+    same-pair-requires
+    add-same-pair-2
+    same-pair-requires-2
+    add-same-pair-3
+    same-pair-requires-3
+    add-same-pair-4
+    same-pair-requires-4
+    returns)

@@ -1,74 +1,86 @@
--- Every byte passed agrees with the set's; the first that differs ends the loop.
-use borrow.Author.Needs.{needs}
-use Prim.Native.Nat.{ℕ, _+_, _-_, _<_, _≤_}
+-- The low four bytes and the high two are the set's where their numbers are those of the word.
+use Prim.Native.Nat.{_<_, _^_}
 use native.Mathlib.Omega.{arith}
-use mathlib.Core.Path.{_≡_, sym, _∙_}
-use borrow.Author.Count.{below-none, below-more}
 use denote.Ref.{now}
-use lib.ListN.{getD}
-use Rattle.image.specs.Bytes.{word-bytes}
-use Rattle.image.proofs.Agrees.{agrees-all, agrees-fails}
-use Rattle.image.proofs.Words.{length-word, word-byte}
+use Rattle.image.proofs.Agrees.{word-agrees}
+use borrow.Author.Needs.{needs}
 use Rattle.image.proofs.comparing.same_set.Statement.{statement}
 use Rattle.image.proofs.comparing.same_set.Tie as tie
 
-abbrev Inv-loop : tie.InvT-loop
-Inv-loop bytes at set i₀ i = (i ≤ 6) × ((k : ℕ) → k < i → getD bytes (at + k) 0 ≡ getD (word-bytes set) k 0)
+shared-slice-read-pair : tie.Need-shared-slice-read-pair
+shared-slice-read-pair c = search needs
 
-abbrev μ-loop : tie.MeasureT-loop
-μ-loop bytes at set i₀ i = 6 - i
+add-pair : tie.Need-add-pair
+add-pair c = search needs
 
-loop-holds : tie.Need-loop-holds Inv-loop μ-loop
-loop-holds c = (omega arith, below-none _)
+shared-slice-read-pair-2 : tie.Need-shared-slice-read-pair-2
+shared-slice-read-pair-2 c = search needs
 
-add-if1 : tie.Need-add-if1 Inv-loop μ-loop
-add-if1 c = search needs
+pair-requires : tie.Need-pair-requires
+pair-requires c κs = search needs
 
-shared-slice-read-if1 : tie.Need-shared-slice-read-if1 Inv-loop μ-loop
-shared-slice-read-if1 c = search needs
+add-pair-2 : tie.Need-add-pair-2
+add-pair-2 c = search needs
 
-byte-at-requires : tie.Need-byte-at-requires Inv-loop μ-loop
-byte-at-requires c κs = search needs
+shared-slice-read-pair-3 : tie.Need-shared-slice-read-pair-3
+shared-slice-read-pair-3 c = search needs
 
-returns : tie.Need-returns Inv-loop μ-loop
+add-pair-3 : tie.Need-add-pair-3
+add-pair-3 c = search needs
+
+shared-slice-read-pair-4 : tie.Need-shared-slice-read-pair-4
+shared-slice-read-pair-4 c = search needs
+
+pair-requires-2 : tie.Need-pair-requires-2
+pair-requires-2 c κs = search needs
+
+quad-requires : tie.Need-quad-requires
+quad-requires c κs = search needs
+
+add-pair-4 : tie.Need-add-pair-4
+add-pair-4 c = search needs
+
+shared-slice-read-pair-5 : tie.Need-shared-slice-read-pair-5
+shared-slice-read-pair-5 c = search needs
+
+add-pair-5 : tie.Need-add-pair-5
+add-pair-5 c = search needs
+
+shared-slice-read-pair-6 : tie.Need-shared-slice-read-pair-6
+shared-slice-read-pair-6 c = search needs
+
+pair-requires-3 : tie.Need-pair-requires-3
+pair-requires-3 c κs = search needs
+
+returns : tie.Need-returns
 returns c =
-    let at = c .before .before .before .before in
-    let a = at .before .before .args in
-    let n = length-word (a .set) in
-    sym (agrees-fails (now (a .bytes)) (a .at) (word-bytes (a .set)) (omega arith) (at .loop .i) (omega arith)
-    (λ e. c .if1 .taken (e ∙ word-byte (a .set) (at .loop .i) (omega arith) ∙ sym (c .before .byte-at .ensures))))
-
-add-i : tie.Need-add-i Inv-loop μ-loop
-add-i c = search needs
-
-loop-less : tie.Need-loop-less Inv-loop μ-loop
-loop-less c = search needs
-
-loop-again : tie.Need-loop-again Inv-loop μ-loop
-loop-again c =
-    let at = c .before .before .before .before in
-    let a = at .before .before .args in
-    (omega arith, below-more _ _ (at .loop .inv .1) (c .if1 .left ∙ c .before .byte-at .ensures ∙ sym (word-byte (a .set) (at .loop .i) (omega arith))))
-
-returns-2 : tie.Need-returns-2 Inv-loop μ-loop
-returns-2 c =
-    let at = c .before in
-    let a = at .before .before .args in
-    let n = length-word (a .set) in
-    sym (agrees-all (now (a .bytes)) (a .at) (word-bytes (a .set)) (omega arith) (λ k h. at .loop .inv .1 k (omega arith)))
+    let q = c .before .before .before in
+    let p2 = q .before in
+    let p1 = p2 .before .before .before in
+    let k = p1 .before .before .before in
+    let s = k .before in
+    let a = s .args in
+    let fits : a .set < 2 ^ 64 = omega arith in
+    word-agrees (now (a .bytes)) (a .at) (a .set) (λ i. k .shared-slice-known .given i .fits) (s .pre) fits (q .quad .result) (c .pair3 .result)
+    (omega (arith, q .quad .ensures .0, p1 .pair .ensures .0, p2 .pair2 .ensures .0)) (q .quad .ensures .1) (c .pair3 .ensures .0) (c .pair3 .ensures .1)
 
 pub same-set-spec : {M : Type 1} → statement M
 same-set-spec =
     tie.close
     (tie.spec
-    Inv-loop
-    μ-loop
-    loop-holds
-    add-if1
-    shared-slice-read-if1
-    byte-at-requires
-    returns
-    add-i
-    loop-less
-    loop-again
-    returns-2)
+    shared-slice-read-pair
+    add-pair
+    shared-slice-read-pair-2
+    pair-requires
+    add-pair-2
+    shared-slice-read-pair-3
+    add-pair-3
+    shared-slice-read-pair-4
+    pair-requires-2
+    quad-requires
+    add-pair-4
+    shared-slice-read-pair-5
+    add-pair-5
+    shared-slice-read-pair-6
+    pair-requires-3
+    returns)

@@ -1,7 +1,9 @@
 -- The checks run in order; what they leave is written, and its length is the image's.
 use native.Mathlib.Omega.{arith}
-use mathlib.Core.Path.{sym, _∙_}
+use mathlib.Core.Path.{sym, ap, _∙_}
 use denote.Ref.{now}
+use Rattle.model.specs.Refusals.{is-granted}
+use Rattle.net.proofs.Linking.{linked-none}
 use Rattle.image.proofs.Given.{Given, given}
 use Rattle.image.proofs.Answering.{list-refused, output-refused, written}
 use borrow.Author.Needs.{needs}
@@ -9,7 +11,7 @@ use Rattle.image.proofs.composing.compose.Statement.{statement}
 use Rattle.image.proofs.composing.compose.Tie as tie
 
 judge-given-requires : tie.Need-judge-given-requires
-judge-given-requires c κs = search needs
+judge-given-requires c κs = linked-none
 
 enum-known-k : tie.Need-enum-known-k
 enum-known-k c = search needs
@@ -17,19 +19,19 @@ enum-known-k c = search needs
 returns : tie.Need-returns
 returns c =
     let j = c .before .before .before in
-    let a = j .before .before .before .before .args in
-    list-refused (now (a .capacities)) (now (a .relations)) (now (a .out)) (c .before .k .given .0 .0) (sym (j .judge-given .ensures) ∙ c .before .k .given .1)
+    let a = j .before .before .before .before .before .args in
+    list-refused (now (a .capacities)) (now (a .relations)) (now (a .out)) (c .before .k .given .0 .0) (sym (j .judge-given .ensures .0) ∙ c .before .k .given .1)
 
 enum-told : tie.Need-enum-told
 enum-told c = search needs
 
 -- the list passed the checks
 passed : (c : tie.After-enum-told) →
-    let a = c .before .before .before .before .before .before .args in
+    let a = c .before .before .before .before .before .before .before .args in
     Given (now (a .capacities)) (now (a .relations))
 passed c =
-    let a = c .before .before .before .before .before .before .args in
-    given (now (a .capacities)) (now (a .relations)) (sym (c .before .before .judge-given .ensures) ∙ c .enum-told .given .1)
+    let a = c .before .before .before .before .before .before .before .args in
+    given (now (a .capacities)) (now (a .relations)) (sym (c .before .before .judge-given .ensures .0) ∙ c .enum-told .given .1)
 
 count-requires : tie.Need-count-requires
 count-requires c κs = (passed c .composable .few, passed c .composable .short)
@@ -49,23 +51,25 @@ add-length-3 c = omega (arith, passed (c .before), passed (c .before) .composabl
 returns-2 : tie.Need-returns-2
 returns-2 c =
     let p = c .before .before in
-    let a = p .before .before .before .before .before .before .args in
+    let a = p .before .before .before .before .before .before .before .args in
     let g = passed p in
     output-refused (now (a .capacities)) (now (a .relations)) (now (a .out)) g (omega (arith, g .long, c .if1 .taken, c .before .count .ensures))
 
 write-image-requires : tie.Need-write-image-requires
 write-image-requires c κs =
-    let g = passed (c .before .before .before) in
-    record { composable = g .composable; whole = g .whole; count = c .before .before .count .ensures; room = c .before .if1 .left }
+    let e = c .before .before in
+    let p = e .before .before in
+    let g = passed p in
+    (p .before .before .judge-given .ensures .1 (ap is-granted (p .enum-told .given .1)), record { composable = g .composable; whole = g .whole; count = e .before .count .ensures; room = e .if1 .left })
 
 same-length : tie.Need-same-length
 same-length c = search needs
 
 returns-3 : tie.Need-returns-3
 returns-3 c =
-    let e = c .before .before .before .before in
+    let e = c .before .before .before .before .before in
     let p = e .before .before in
-    let a = p .before .before .before .before .before .before .args in
+    let a = p .before .before .before .before .before .before .before .args in
     let g = passed p in
     written (now (a .capacities)) (now (a .relations)) (now (a .out)) g _ _ (omega (arith, g .long, e .before .count .ensures))
     (omega (arith, g .long, e .if1 .left, e .before .count .ensures)) (c .before .before .write-image .ensures)

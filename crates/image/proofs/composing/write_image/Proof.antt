@@ -31,16 +31,21 @@ copy-requires-2 : tie.Need-copy-requires-2
 copy-requires-2 c κs = search needs
 
 write-composed-requires : tie.Need-write-composed-requires
-write-composed-requires c κs = search needs
+write-composed-requires c κs =
+    let second = c .before .before .before in
+    let first = second .before .before .before .before in
+    let s = first .before .before .before .before .before in
+    let p = s .pre .1 in
+    (p .composable, (s .pre .0, omega (arith, p .room, p .count, second .copy2 .kept .0, first .copy .kept .0)))
 
 write-trailer-requires : tie.Need-write-trailer-requires
 write-trailer-requires c κs =
     let s = c .before .before .before .before .before .before .before .before .before .before .before .before .before .before .before .before in
     let n = few-transitions (length (now (s .args .capacities))) (now (s .args .relations)) in
-    let t = s .pre .count in
-    let few = s .pre .composable .few in
-    let short = s .pre .composable .short in
-    (omega (arith, c .before .before .before .write-composed .kept .1 .1 .0, c .before .before .before .before .before .before .before .copy2 .kept .0, s .pre .room), omega arith, omega arith, omega arith)
+    let t = s .pre .1 .count in
+    let few = s .pre .1 .composable .few in
+    let short = s .pre .1 .composable .short in
+    (omega (arith, c .before .before .before .write-composed .kept .0, c .before .before .before .before .before .before .before .copy2 .kept .0, s .pre .1 .room), omega arith, omega arith, omega arith)
 
 same-length : tie.Need-same-length
 same-length c = search needs
@@ -57,16 +62,16 @@ returns c =
     let caps = now (s .args .capacities) in
     let bs = now (s .args .relations) in
     let ts = transitions-of (length caps) (relations-in bs) in
-    let room = s .pre .room in
-    let count = s .pre .count in
+    let room = s .pre .1 .room in
+    let count = s .pre .1 .count in
     let n = length-concat-map (record-bytes 6) 49 (length-record 6) ts in
     let m = length-trailer edition-1 (trailer edition-1 (length caps) (length bs / 3) (length ts)) in
-    put-four out caps bs (given-records caps bs) (given-trailer caps bs) (length caps + length bs + 49 * s .args .t) (omega arith) (omega arith) (a .copy .ensures)
+    put-four out caps bs (given-records caps bs) (given-trailer caps bs) (length caps + length bs + 49 * s .args .t) (omega arith) (omega arith) (omega arith) (a .copy .ensures)
     (b .copy2 .ensures) (r .write-composed .ensures)
     (t .write-trailer .ensures
-    ∙ ap (λ (k : ℕ). put (r .write-composed .last .1 .1 .0) (length caps + length bs + 49 * s .args .t) (trailer-bytes edition-1 (trailer edition-1 (length caps) (length bs / 3) k)))
+    ∙ ap (λ (k : ℕ). put (r .write-composed .last .0) (length caps + length bs + 49 * s .args .t) (trailer-bytes edition-1 (trailer edition-1 (length caps) (length bs / 3) k)))
     count)
-    ∙ ap (put out 0) (sym (image-parts caps bs (bytes-each bs (λ i. known .shared-slice-known2 .given i .fits)) (s .pre .whole)))
+    ∙ ap (put out 0) (sym (image-parts caps bs (bytes-each bs (λ i. known .shared-slice-known2 .given i .fits)) (s .pre .1 .whole)))
 
 pub write-image-spec : {M : Type 1} → statement M
 write-image-spec =

@@ -38,7 +38,7 @@ returns c rels has =
     let a = start .args in
     grown-two
     (columns (now (a .priority)) (now (a .takesContext)) (now (a .takesPr)) (now (a .takesNot)) (now (a .givesContext)) (now (a .givesPr)) (now (a .givesNot)) (now (a .inhibContext)) (now (a .inhibPr)))
-    (a .c) (omega (arith, start .pre)) (first .store .ensures) (c .store2 .ensures) (made .before .act-of .ensures rels has) (made .deac-of .ensures rels (has .asked))
+    (a .c) (omega (arith, start .pre)) (first .store .ensures) (c .store2 .ensures) (made .before .act-of .ensures rels has) (made .deac-of .ensures rels (has))
 
 pub context-spec : {M : Type 1} → statement M
 context-spec =

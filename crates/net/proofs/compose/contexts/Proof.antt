@@ -14,14 +14,14 @@ use Rattle.net.proofs.compose.contexts.Statement.{statement}
 use Rattle.net.proofs.compose.contexts.Tie as tie
 
 abbrev Inv-loop : tie.InvT-loop
-Inv-loop n excluded caused implied required priority₀ takesContext₀ takesPr₀ takesNot₀ givesContext₀ givesPr₀ givesNot₀ inhibContext₀ inhibPr₀ c₀ priority takesContext takesPr takesNot givesContext givesPr givesNot inhibContext inhibPr c =
+Inv-loop n links priority₀ takesContext₀ takesPr₀ takesNot₀ givesContext₀ givesPr₀ givesNot₀ inhibContext₀ inhibPr₀ c₀ priority takesContext takesPr takesNot givesContext givesPr givesNot inhibContext inhibPr c =
     (c ≤ n) × (n ≤ 48)
-    × ((rels : List Relation) → Linked rels excluded caused implied required
+    × ((rels : List Relation) → Linked rels links
     → Grown (columns priority₀ takesContext₀ takesPr₀ takesNot₀ givesContext₀ givesPr₀ givesNot₀ inhibContext₀ inhibPr₀) 0 (columns priority takesContext takesPr takesNot givesContext givesPr givesNot inhibContext inhibPr) (2 * c)
     (concat-map (context-transitions rels) (range 0 c)))
 
 abbrev μ-loop : tie.MeasureT-loop
-μ-loop n excluded caused implied required priority₀ takesContext₀ takesPr₀ takesNot₀ givesContext₀ givesPr₀ givesNot₀ inhibContext₀ inhibPr₀ c₀ priority takesContext takesPr takesNot givesContext givesPr givesNot inhibContext inhibPr c =
+μ-loop n links priority₀ takesContext₀ takesPr₀ takesNot₀ givesContext₀ givesPr₀ givesNot₀ inhibContext₀ inhibPr₀ c₀ priority takesContext takesPr takesNot givesContext givesPr givesNot inhibContext inhibPr c =
     n - c
 
 loop-holds : tie.Need-loop-holds Inv-loop μ-loop

@@ -18,14 +18,14 @@ use Rattle.net.proofs.compose.extras.Statement.{statement}
 use Rattle.net.proofs.compose.extras.Tie as tie
 
 abbrev Inv-loop : tie.InvT-loop
-Inv-loop n relations caused implied priority₀ takesContext₀ takesPr₀ takesNot₀ givesContext₀ givesPr₀ givesNot₀ inhibContext₀ inhibPr₀ r t₀ i₀ priority takesContext takesPr takesNot givesContext givesPr givesNot inhibContext inhibPr t i =
+Inv-loop n relations links priority₀ takesContext₀ takesPr₀ takesNot₀ givesContext₀ givesPr₀ givesNot₀ inhibContext₀ inhibPr₀ r t₀ i₀ priority takesContext takesPr takesNot givesContext givesPr givesNot inhibContext inhibPr t i =
     (i ≤ r) × (n ≤ 48) × (r ≤ 96)
     × Grown (columns priority₀ takesContext₀ takesPr₀ takesNot₀ givesContext₀ givesPr₀ givesNot₀ inhibContext₀ inhibPr₀) (2 * n)
     (columns priority takesContext takesPr takesNot givesContext givesPr givesNot inhibContext inhibPr) t
     (concat-map (extra (relations-in relations)) (first-relations i relations))
 
 abbrev μ-loop : tie.MeasureT-loop
-μ-loop n relations caused implied priority₀ takesContext₀ takesPr₀ takesNot₀ givesContext₀ givesPr₀ givesNot₀ inhibContext₀ inhibPr₀ r t₀ i₀ priority takesContext takesPr takesNot givesContext givesPr givesNot inhibContext inhibPr t i =
+μ-loop n relations links priority₀ takesContext₀ takesPr₀ takesNot₀ givesContext₀ givesPr₀ givesNot₀ inhibContext₀ inhibPr₀ r t₀ i₀ priority takesContext takesPr takesNot givesContext givesPr givesNot inhibContext inhibPr t i =
     r - i
 
 mul-t : tie.Need-mul-t Inv-loop μ-loop
@@ -57,26 +57,24 @@ room c =
     let l = now (at .before .before .args .relations) in
     omega (arith, at .loop .inv .3 .count, extras-few (relations-in l) l (at .loop .i))
 
-asked-of-requires : tie.Need-asked-of-requires Inv-loop μ-loop
-asked-of-requires c κs = let in-loop = c .before .before .before in omega (arith, c .before .source-at .ensures, fits in-loop .ends, in-loop .before .loop .inv .1)
-
 extra-requires : tie.Need-extra-requires Inv-loop μ-loop
 extra-requires c κs =
-    let to = c .before .before .before .before .before .before .before .before .before .before in
+    let to = c .before .before .before .before .before .before .before .before .before in
     let in-loop = to .before .before .before in
-    let ends = fits in-loop .ends in
+    let f = fits in-loop in
+    let k = to .before .before .kind-at .ensures in
     let few = in-loop .before .loop .inv .1 in
-    (omega (arith, to .before .source-at .ensures, ends, few), omega (arith, to .target-at .ensures, ends, few), room in-loop)
+    (omega (arith, f .least, k), omega (arith, f .most, k), omega (arith, to .before .source-at .ensures, f .ends, few), omega (arith, to .target-at .ensures, f .ends, few), room in-loop)
 
 add-i : tie.Need-add-i Inv-loop μ-loop
-add-i c = let in-loop = c .before .before .before .before .before .before .before .before .before .before .before .before .before .before in omega (arith, in-loop .loop-test .taken, in-loop .before .loop .inv .2)
+add-i c = let in-loop = c .before .before .before .before .before .before .before .before .before .before .before .before .before in omega (arith, in-loop .loop-test .taken, in-loop .before .loop .inv .2)
 
 loop-less : tie.Need-loop-less Inv-loop μ-loop
-loop-less c = let in-loop = c .before .before .before .before .before .before .before .before .before .before .before .before .before .before in omega (arith, in-loop .loop-test .taken)
+loop-less c = let in-loop = c .before .before .before .before .before .before .before .before .before .before .before .before .before in omega (arith, in-loop .loop-test .taken)
 
 loop-again : tie.Need-loop-again Inv-loop μ-loop
 loop-again c =
-    let to = c .before .before .before .before .before .before .before .before .before .before .before in
+    let to = c .before .before .before .before .before .before .before .before .before .before in
     let in-loop = to .before .before .before in
     let at = in-loop .before in
     let start = at .before .before in
@@ -88,7 +86,7 @@ loop-again c =
       at .loop .inv .2,
       grown-more (extras-more rels l (at .loop .i) ∙ ap (λ (r : Relation). concat-map (extra rels) (first-relations (at .loop .i) l) ++ extra rels r) (sym x))
           (at .loop .inv .3)
-          (c .extra .ensures rels (c .before .before .before .before .before .before .before .before .before .before .asked-of .ensures rels (start .pre .1))),
+          (c .extra .ensures rels (start .pre .1)),
     )
 
 returns : tie.Need-returns Inv-loop μ-loop
@@ -109,7 +107,6 @@ extras-spec =
     kind-at-requires
     source-at-requires
     target-at-requires
-    asked-of-requires
     extra-requires
     add-i
     loop-less

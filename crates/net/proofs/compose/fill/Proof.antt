@@ -1,17 +1,22 @@
--- The words start empty, so behind link_all they hold what all relations link, and the arrays take every transition from entry 0 on.
-use Rattle.net.proofs.Linking.{linked-none}
-use Rattle.net.proofs.Growing.{filled}
+-- The contexts' transitions stand first, from entry 0 on, and the extra ones behind them.
+use Rattle.model.specs.Transitions.{transitions-of}
+use Rattle.net.proofs.Growing.{grown-then, filled}
+use borrow.Author.Needs.{needs}
 use Rattle.net.proofs.compose.fill.Statement.{statement}
 use Rattle.net.proofs.compose.fill.Tie as tie
 
-link-all-requires : tie.Need-link-all-requires
-link-all-requires c κs = let p = c .before .before .before .before .before .pre .0 in record { n = _; few = p .few; fits = p .fits }
+contexts-requires : tie.Need-contexts-requires
+contexts-requires c κs = search needs
 
-fill-linked-requires : tie.Need-fill-linked-requires
-fill-linked-requires c κs = let linked = c .before .before .before .before .before .before .before .before .before .before .before .before .before in (linked .before .before .before .before .before .before .pre .0, linked .link-all .ensures linked-none)
+extras-requires : tie.Need-extras-requires
+extras-requires c κs = search needs
 
 returns : tie.Need-returns
-returns c = filled (c .before .before .before .before .before .before .before .before .before .before .before .before .before .before .before .before .before .before .before .before .pre .1) (c .fill-linked .ensures)
+unfolding transitions-of
+returns c =
+    let contexts = c .before .before .before .before .before .before .before .before .before .before in
+    let s = contexts .before .before .before .before .before .before .before .before .before .before .before in
+    filled (s .pre .1 .1) (grown-then (contexts .contexts .ensures _ (s .pre .1 .0)) (c .extras .ensures))
 
 pub fill-spec : {M : Type 1} → statement M
-fill-spec = tie.close (tie.spec link-all-requires fill-linked-requires returns)
+fill-spec = tie.close (tie.spec contexts-requires extras-requires returns)

@@ -1,7 +1,8 @@
--- The words of the relation's own kind take its ends; those of the other kinds stay.
+-- The word of the first end takes the second; of an exclusion the word of the second takes the first too.
 use native.Mathlib.Omega.{arith}
+use Rattle.net.specs.Links.{ends}
+use Rattle.net.proofs.Linking.{add, joined, linked-plain, linked-exclusion}
 use borrow.Author.Needs.{needs}
-use Rattle.net.proofs.Linking.{joins, stays, linked-step}
 use Rattle.net.proofs.links.link.Statement.{statement}
 use Rattle.net.proofs.links.link.Tie as tie
 
@@ -14,53 +15,22 @@ mark-requires-2 c κs = search needs
 mark-requires-3 : tie.Need-mark-requires-3
 mark-requires-3 c κs = search needs
 
-mark-requires-4 : tie.Need-mark-requires-4
-mark-requires-4 c κs = search needs
-
-mark-requires-5 : tie.Need-mark-requires-5
-mark-requires-5 c κs = search needs
-
 returns : tie.Need-returns
 returns c rels has =
-    let at = c .before .before .before .before in
-    let a = at .before .args in
-    linked-step rels (a .k) (a .a) (a .b) has (joins (at .match .keys1) (λ F h. c .mark2 .ensures _ (c .before .before .mark .ensures F h))) (stays (λ e. omega arith)) (stays (λ e. omega arith)) (stays (λ e. omega arith))
+    let first = c .before .before in
+    let m = first .before .before in
+    let s = m .before in
+    let a = s .args in
+    linked-exclusion rels (a .k) (a .a) (a .b) (m .match .keys1)
+    (joined (add (a .k) (a .a) (a .b) (ends rels)) (a .k) (a .b) (a .a) (c .mark2 .ensures) (omega (arith, s .pre .0)) (s .pre .2)
+    (joined (ends rels) (a .k) (a .a) (a .b) (first .mark .ensures) (omega (arith, s .pre .0)) (s .pre .1) has))
 
 returns-2 : tie.Need-returns-2
 returns-2 c rels has =
-    let at = c .before .before in
-    let a = at .before .args in
-    linked-step rels (a .k) (a .a) (a .b) has (stays (λ e. omega arith)) (joins (at .match .keys2) (c .mark3 .ensures)) (stays (λ e. omega arith)) (stays (λ e. omega arith))
-
-returns-3 : tie.Need-returns-3
-returns-3 c rels has =
-    let at = c .before .before in
-    let a = at .before .args in
-    linked-step rels (a .k) (a .a) (a .b) has (stays (λ e. omega arith)) (stays (λ e. omega arith)) (joins (at .match .keys3) (c .mark4 .ensures)) (stays (λ e. omega arith))
-
-returns-4 : tie.Need-returns-4
-returns-4 c rels has =
-    let at = c .before .before in
-    let a = at .before .args in
-    linked-step rels (a .k) (a .a) (a .b) has (stays (λ e. omega arith)) (stays (λ e. omega arith)) (stays (λ e. omega arith)) (joins (at .match .keys4) (c .mark5 .ensures))
-
-returns-5 : tie.Need-returns-5
-returns-5 c rels has =
-    let a = c .before .args in
-    let none = c .match .rest in
-    linked-step rels (a .k) (a .a) (a .b) has (stays (none .0 .0 .0 .1)) (stays (none .0 .0 .1)) (stays (none .0 .1)) (stays (none .1))
+    let m = c .before .before in
+    let s = m .before in
+    let a = s .args in
+    linked-plain rels (a .k) (a .a) (a .b) (m .match .rest .1) (joined (ends rels) (a .k) (a .a) (a .b) (c .mark3 .ensures) (omega (arith, s .pre .0)) (s .pre .1) has)
 
 pub link-spec : {M : Type 1} → statement M
-link-spec =
-    tie.close
-    (tie.spec
-    mark-requires
-    mark-requires-2
-    mark-requires-3
-    mark-requires-4
-    mark-requires-5
-    returns
-    returns-2
-    returns-3
-    returns-4
-    returns-5)
+link-spec = tie.close (tie.spec mark-requires mark-requires-2 mark-requires-3 returns returns-2)

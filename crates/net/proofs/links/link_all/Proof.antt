@@ -1,26 +1,31 @@
--- The words hold what the first i relations link.
+-- The words hold what the first i relations link, and it is known whether one of these is the same as an earlier one.
 use Prim.Native.Nat.{ℕ, _≤_, _-_, _/_}
-use mathlib.Core.Path.{_≡_}
-use mathlib.Core.List.{[]}
+use mathlib.Core.Bool.{Bool, _||_}
+use mathlib.Core.Path.{_≡_, refl, sym, ap, ap₂, _∙_}
 use native.Mathlib.Omega.{arith}
 use denote.Ref.{now}
 use lib.ListN.{length}
-use Rattle.net.specs.Reading.{first-relations}
+use Rattle.model.specs.Sets.{any}
+use Rattle.model.specs.Relations.{Relation, same, repeats, repeats-after}
+use Rattle.model.proofs.Ready.{Fitting}
+use Rattle.net.specs.Reading.{relation-at, first-relations}
 use Rattle.net.specs.Links.{Linked}
-use Rattle.net.proofs.Reading.{fits-at}
+use Rattle.net.proofs.Reading.{same-parts, fits-at}
 use Rattle.net.proofs.Linking.{linked-more}
+use Rattle.net.proofs.Repeats.{repeats-more}
 use Rattle.net.proofs.links.link_all.Statement.{statement}
 use Rattle.net.proofs.links.link_all.Tie as tie
 
 abbrev Inv-loop : tie.InvT-loop
-Inv-loop relations excluded₀ caused₀ implied₀ required₀ r i₀ excluded caused implied required i =
-    (i ≤ r) × (Linked [] excluded₀ caused₀ implied₀ required₀ → Linked (first-relations i relations) excluded caused implied required)
+Inv-loop relations links₀ r repeated₀ i₀ links repeated i =
+    (i ≤ r) × Linked (first-relations i relations) links × (repeated ≡ repeats (first-relations i relations))
 
 abbrev μ-loop : tie.MeasureT-loop
-μ-loop relations excluded₀ caused₀ implied₀ required₀ r i₀ excluded caused implied required i = r - i
+μ-loop relations links₀ r repeated₀ i₀ links repeated i = r - i
 
 loop-holds : tie.Need-loop-holds Inv-loop μ-loop
-loop-holds c = (omega arith, λ none. none)
+unfolding repeats-after
+loop-holds c = (omega arith, c .before .pre .1, refl)
 
 kind-at-requires : tie.Need-kind-at-requires Inv-loop μ-loop
 kind-at-requires c κs = omega arith
@@ -31,12 +36,29 @@ source-at-requires c κs = omega arith
 target-at-requires : tie.Need-target-at-requires Inv-loop μ-loop
 target-at-requires c κs = omega arith
 
+-- relation i passed check 6
+fits : (c : tie.In-loop Inv-loop μ-loop)
+    → let start = c .before .before .before in
+    Fitting (start .pre .0 .n) (relation-at (now (start .args .relations)) (c .before .loop .i))
+fits c =
+    let start = c .before .before .before in
+    fits-at (start .pre .0 .n) (now (start .args .relations)) (start .pre .0 .fits) (c .before .loop .i) (omega arith)
+
+linked-requires : tie.Need-linked-requires Inv-loop μ-loop
+linked-requires c κs =
+    let to = c .before in
+    let in-loop = to .before .before .before in
+    let f = fits in-loop in
+    let few = in-loop .before .before .before .pre .0 .few in
+    (omega (arith, f .most, to .before .before .kind-at .ensures), omega (arith, f .ends, few, to .before .source-at .ensures), omega (arith, f .ends, few, to .target-at .ensures))
+
 link-requires : tie.Need-link-requires Inv-loop μ-loop
 link-requires c κs =
-    let at = c .before .before .before .before .before .before .before .before in
-    let start = at .before .before in
-    let ends = fits-at (start .pre .n) (now (start .args .relations)) (start .pre .fits) (at .loop .i) (omega arith) .ends in
-    omega (arith, ends, start .pre .few)
+    let to = c .before .before .before in
+    let in-loop = to .before .before .before in
+    let f = fits in-loop in
+    let few = in-loop .before .before .before .pre .0 .few in
+    (omega (arith, f .most, to .before .before .kind-at .ensures), omega (arith, f .ends, few, to .before .source-at .ensures), omega (arith, f .ends, few, to .target-at .ensures))
 
 add-i : tie.Need-add-i Inv-loop μ-loop
 add-i c = omega arith
@@ -46,18 +68,24 @@ loop-less c = omega arith
 
 loop-again : tie.Need-loop-again Inv-loop μ-loop
 loop-again c =
-    let to = c .before .before .before .before .before in
-    let at = to .before .before .before .before in (
+    let test = c .before .before in
+    let to = test .before .before in
+    let at = to .before .before .before .before in
+    let l = now (at .before .before .args .relations) in
+    let i = at .loop .i in
+    let answer : test .linked .result ≡ any (same (relation-at l i)) (first-relations i l) =
+    test .linked .ensures _ (at .loop .inv .1)
+    ∙ ap (λ (r : Relation). any (same r) (first-relations i l)) (same-parts (to .before .before .kind-at .ensures) (to .before .source-at .ensures) (to .target-at .ensures)) in (
       omega arith,
-      λ none. linked-more (at .loop .i) (now (at .before .before .args .relations)) (to .before .before .kind-at .ensures) (to .before .source-at .ensures) (to .target-at .ensures)
-          (c .link .ensures _ (at .loop .inv .1 none)),
+      linked-more i l (to .before .before .kind-at .ensures) (to .before .source-at .ensures) (to .target-at .ensures) (c .link .ensures _ (at .loop .inv .1)),
+      ap₂ (λ (p q : Bool). p || q) (at .loop .inv .2) answer ∙ sym (repeats-more l i),
     )
 
 returns : tie.Need-returns Inv-loop μ-loop
-returns c none =
+returns c =
     let at = c .before in
     let last : _≡_ {A = ℕ} (at .loop .i) (length (now (at .before .before .args .relations)) / 3) = omega arith in
-    rw last at (at .loop .inv .1 none)
+    (rw last at (at .loop .inv .2), rw last at (at .loop .inv .1))
 
 pub link-all-spec : {M : Type 1} → statement M
 link-all-spec =
@@ -69,6 +97,7 @@ link-all-spec =
     kind-at-requires
     source-at-requires
     target-at-requires
+    linked-requires
     link-requires
     add-i
     loop-less

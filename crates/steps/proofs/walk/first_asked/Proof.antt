@@ -1,4 +1,4 @@
--- The transitions passed over fail the test: those tried are not ready, and no temporary place of the other contexts holds a token.
+-- The transitions passed over fail the test: those tried are not ready, and those of the other contexts cannot be.
 use Prim.Native.Nat.{_+_, _*_, _-_, _≤_, _<_}
 use mathlib.Core.Bool.{true, false}
 use mathlib.Core.Path.{_≡_, sym, _∙_}
@@ -24,8 +24,8 @@ cols b =
     let a = b .args in
     columns (a .priority .now) (a .takesContext .now) (a .takesPr .now) (a .takesNot .now) (a .givesContext .now) (a .givesPr .now) (a .givesNot .now) (a .inhibContext .now) (a .inhibPr .now)
 
-union-requires : tie.Need-union-requires Inv-loop μ-loop
-union-requires c κs = search needs
+movable-requires : tie.Need-movable-requires Inv-loop μ-loop
+movable-requires c κs = search needs
 
 member-from-requires : tie.Need-member-from-requires Inv-loop μ-loop
 member-from-requires c κs = omega arith
@@ -34,7 +34,7 @@ loop-holds : tie.Need-loop-holds Inv-loop μ-loop
 loop-holds c =
     let u = c .before in
     let b = u .before in
-    (b .pre, c .member-from .ensures .hit, asked-start (cols b) (b .args .marks) (b .args .n) (b .pre) (u .union .ensures) (c .member-from .result) (c .member-from .ensures))
+    (b .pre, c .member-from .ensures .hit, asked-start (cols b) (b .args .marks) (b .args .n) (b .pre) (u .movable .ensures) (c .member-from .result) (c .member-from .ensures))
 
 mul-act : tie.Need-mul-act Inv-loop μ-loop
 mul-act c = omega arith
@@ -48,7 +48,7 @@ returns c =
     let u = h .before .before in
     let b = u .before in
     let l = h .loop in
-    let hit = asked-hit (cols b) (b .args .marks) (b .args .n) (l .inv .0) (u .union .ensures) (l .c) (2 * l .c) (omega arith) (omega arith) (l .inv .1 (omega arith)) (sym (c .before .ready-at .ensures) ∙ c .if1 .taken) in
+    let hit = asked-hit (cols b) (b .args .marks) (b .args .n) (l .inv .0) (u .movable .ensures) (l .c) (2 * l .c) (omega arith) (omega arith) (l .inv .1 (omega arith)) (sym (c .before .ready-at .ensures) ∙ c .if1 .taken) in
     finds-at _ 0 (2 * b .args .n) (2 * l .c) (omega arith) (omega arith) hit (l .inv .2)
 
 mul-deac : tie.Need-mul-deac Inv-loop μ-loop
@@ -69,7 +69,7 @@ not-act c =
     let u = h .before .before in
     let b = u .before in
     let l = h .loop in
-    asked-fails (cols b) (b .args .marks) (b .args .n) (l .inv .0) (u .union .ensures) (l .c) (2 * l .c) (omega arith) (omega arith)
+    asked-fails (cols b) (b .args .marks) (b .args .n) (l .inv .0) (u .movable .ensures) (l .c) (2 * l .c) (omega arith) (omega arith)
     (sym (c .before .before .ready-at .ensures) ∙ c .before .if1 .left)
 
 returns-2 : tie.Need-returns-2 Inv-loop μ-loop
@@ -78,7 +78,7 @@ returns-2 c =
     let u = h .before .before in
     let b = u .before in
     let l = h .loop in
-    let hit = asked-hit (cols b) (b .args .marks) (b .args .n) (l .inv .0) (u .union .ensures) (l .c) (2 * l .c + 1) (omega arith) (omega arith) (l .inv .1 (omega arith)) (sym (c .before .ready-at2 .ensures) ∙ c .if2 .taken) in
+    let hit = asked-hit (cols b) (b .args .marks) (b .args .n) (l .inv .0) (u .movable .ensures) (l .c) (2 * l .c + 1) (omega arith) (omega arith) (l .inv .1 (omega arith)) (sym (c .before .ready-at2 .ensures) ∙ c .if2 .taken) in
     finds-at _ 0 (2 * b .args .n) (2 * l .c + 1) (omega arith) (omega arith) hit (passed-more _ 0 (2 * b .args .n) (2 * l .c) (l .inv .2) (not-act (c .before)))
 
 add-member-from : tie.Need-add-member-from Inv-loop μ-loop
@@ -99,8 +99,8 @@ loop-again c =
     let l = h .loop in
     let k = e .before .before .before .before .loop-test .taken in
     let few = l .inv .0 in
-    let not-deac = asked-fails (cols b) (b .args .marks) (b .args .n) (l .inv .0) (u .union .ensures) (l .c) (2 * l .c + 1) (omega arith) (omega arith) (sym (e .before .ready-at2 .ensures) ∙ e .if2 .left) in
-    (l .inv .0, c .member-from2 .ensures .hit, asked-more (cols b) (b .args .marks) (b .args .n) (l .inv .0) (u .union .ensures) (l .c) (c .member-from2 .result) k (l .inv .2) (not-act (e .before)) not-deac (c .member-from2 .ensures))
+    let not-deac = asked-fails (cols b) (b .args .marks) (b .args .n) (l .inv .0) (u .movable .ensures) (l .c) (2 * l .c + 1) (omega arith) (omega arith) (sym (e .before .ready-at2 .ensures) ∙ e .if2 .left) in
+    (l .inv .0, c .member-from2 .ensures .hit, asked-more (cols b) (b .args .marks) (b .args .n) (l .inv .0) (u .movable .ensures) (l .c) (c .member-from2 .result) k (l .inv .2) (not-act (e .before)) not-deac (c .member-from2 .ensures))
 
 returns-3 : tie.Need-returns-3 Inv-loop μ-loop
 returns-3 c =
@@ -113,7 +113,7 @@ first-asked-spec =
     (tie.spec
     Inv-loop
     μ-loop
-    union-requires
+    movable-requires
     member-from-requires
     loop-holds
     mul-act
