@@ -1,5 +1,5 @@
 -- The words hold what the first i relations link, and it is known whether one of these is the same as an earlier one.
-use Prim.Native.Nat.{ℕ, _≤_, _-_, _/_}
+use Prim.Native.Nat.{ℕ, _<_, _≤_, _-_, _/_}
 use mathlib.Core.Bool.{Bool, _||_}
 use mathlib.Core.Path.{_≡_, refl, sym, ap, ap₂, _∙_}
 use native.Mathlib.Omega.{arith}
@@ -44,21 +44,19 @@ fits c =
     let start = c .before .before .before in
     fits-at (start .pre .0 .n) (now (start .args .relations)) (start .pre .0 .fits) (c .before .loop .i) (omega arith)
 
-linked-requires : tie.Need-linked-requires Inv-loop μ-loop
-linked-requires c κs =
-    let to = c .before in
+-- so its kind and its ends are within the array
+within : (to : tie.After-target-at Inv-loop μ-loop) → (to .before .before .kind-at .result ≤ 4) × (to .before .source-at .result < 48) × (to .target-at .result < 48)
+within to =
     let in-loop = to .before .before .before in
     let f = fits in-loop in
     let few = in-loop .before .before .before .pre .0 .few in
     (omega (arith, f .most, to .before .before .kind-at .ensures), omega (arith, f .ends, few, to .before .source-at .ensures), omega (arith, f .ends, few, to .target-at .ensures))
 
+linked-requires : tie.Need-linked-requires Inv-loop μ-loop
+linked-requires c κs = within (c .before)
+
 link-requires : tie.Need-link-requires Inv-loop μ-loop
-link-requires c κs =
-    let to = c .before .before .before in
-    let in-loop = to .before .before .before in
-    let f = fits in-loop in
-    let few = in-loop .before .before .before .pre .0 .few in
-    (omega (arith, f .most, to .before .before .kind-at .ensures), omega (arith, f .ends, few, to .before .source-at .ensures), omega (arith, f .ends, few, to .target-at .ensures))
+link-requires c κs = within (c .before .before .before)
 
 add-i : tie.Need-add-i Inv-loop μ-loop
 add-i c = omega arith
