@@ -5,7 +5,7 @@ use mathlib.Core.Path.{ap}
 use mathlib.Core.List.{List}
 use native.Mathlib.Omega.{arith}
 use lib.ListN.{length, drop, length-append}
-use Rattle.lines.specs.Answers.{Written}
+use Rattle.prints.specs.Answers.{Written}
 
 pub fits : {text before after : List ℕ} {r : ℕ} → Written text before after r → r ≤ length after
 fits {text} {before} {after} {r} w = omega (arith, w .size, ap length (w .bytes), length-append text (drop r before))

@@ -45,7 +45,7 @@ fn answer_call(engine: Engine, call: Call) -> Engine {
     let next = reply.engine;
     let counts = next.counts;
     let mut out = [0u8; 512];
-    let n = lines::answer(&mut out, call, verdict, answer.firings, next.n, counts);
+    let n = prints::answer(&mut out, call, verdict, answer.firings, next.n, counts);
     io::write_all(STDOUT_FILENO, &out[..n]);
     next
 }
@@ -53,7 +53,7 @@ fn answer_call(engine: Engine, call: Call) -> Engine {
 // Prints the line that answers a line which is no call.
 fn answer_other() {
     let mut out = [0u8; 512];
-    let n = lines::no_call(&mut out);
+    let n = prints::no_call(&mut out);
     io::write_all(STDOUT_FILENO, &out[..n]);
 }
 

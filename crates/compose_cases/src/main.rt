@@ -49,8 +49,8 @@ fn next_case() -> bool {
     if listing::read(&mut header, 6) < 6 {
         return false;
     }
-    let n = listing::pair(header[0], header[1]);
-    let m = listing::pair(header[2], header[3]);
+    let n = layout::pair(header[0], header[1]);
+    let m = layout::pair(header[2], header[3]);
     let mut capacities = io::large_buffer();
     let mut relations = io::large_buffer();
     let a = listing::read(&mut capacities, n);
@@ -64,7 +64,7 @@ fn next_case() -> bool {
     compose_in(
         &capacities[..a],
         &relations[..b],
-        listing::pair(header[4], header[5]),
+        layout::pair(header[4], header[5]),
     );
     true
 }

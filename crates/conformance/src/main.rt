@@ -46,14 +46,14 @@ fn read_call() -> Asked {
     if listing::read(&mut bytes, 3) < 3 {
         return Asked::None;
     }
-    call_of(bytes[0], listing::pair(bytes[1], bytes[2]))
+    call_of(bytes[0], layout::pair(bytes[1], bytes[2]))
 }
 
 // The hash with an answer more, and with the counts and totals after it.
 fn hash_call(h: u64, answer: Answer, engine: Engine) -> u64 {
     let verdict = answer.verdict;
     let counts = engine.counts;
-    let first = listing::fold(h, listing::number(verdict));
+    let first = listing::fold(h, model::number(verdict));
     let firings = listing::hash_number(first, answer.firings as u64, 2);
     let marking = listing::hash_front(firings, &counts, engine.n);
     let granted = listing::hash_number(marking, engine.granted as u64, 4);
@@ -76,7 +76,7 @@ fn print_counts(counts: [u8; 48], n: usize) {
 fn print_call(answer: Answer, engine: Engine) {
     let verdict = answer.verdict;
     let counts = engine.counts;
-    listing::print(listing::number(verdict) as u64, BLANK);
+    listing::print(model::number(verdict) as u64, BLANK);
     listing::print_number(answer.firings as u64);
     print_counts(counts, engine.n);
 }
@@ -133,7 +133,7 @@ fn damage(image: &mut [u8]) -> bool {
     if listing::read(&mut bytes, 3) < 3 {
         return false;
     }
-    store(image, listing::pair(bytes[0], bytes[1]), bytes[2]);
+    store(image, layout::pair(bytes[0], bytes[1]), bytes[2]);
     true
 }
 
@@ -205,9 +205,9 @@ fn next_frame() -> bool {
     if listing::read(&mut header, 8) < 8 {
         return false;
     }
-    let n = listing::pair(header[0], header[1]);
-    let m = listing::pair(header[2], header[3]);
-    let calls = listing::pair(header[4], header[5]);
+    let n = layout::pair(header[0], header[1]);
+    let m = layout::pair(header[2], header[3]);
+    let calls = layout::pair(header[4], header[5]);
     let mut capacities = io::large_buffer();
     let mut relations = io::large_buffer();
     let a = listing::read(&mut capacities, n);

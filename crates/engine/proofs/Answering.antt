@@ -17,12 +17,13 @@ use Rattle.model.specs.declared.Verdict.the-variants.{Granted, Refused}
 use Rattle.model.proofs.Effects.{explained}
 use Rattle.model.proofs.Replay.{reply-call}
 use Rattle.net.specs.Tables.{Columns}
-use Rattle.state.specs.View.{board-in, counts-in, request-in, entries, tally-in}
-use Rattle.state.specs.Parts.{Pushed, TakenBack, joined}
-use Rattle.state.specs.declared.Ring.{Ring}
+use Rattle.state.specs.View.{board-in, tally-in}
+use Rattle.slots.specs.View.{counts-in, request-in, entries}
+use Rattle.slots.specs.Changes.{Pushed, TakenBack, joined}
+use Rattle.slots.specs.declared.Ring.{Ring}
 use Rattle.state.specs.declared.Tally.{Tally}
 use Rattle.state.proofs.Boards.{undo-in-none, undo-in-some, settle-in, commit-in}
-use Rattle.state.proofs.Rings.{joined-limit}
+use Rattle.slots.proofs.Rings.{joined-limit}
 use Rattle.steps.specs.Steps.{Describes, Judges}
 use Rattle.engine.specs.Serving.{Slots, Running, board-at, state-at, Answers, Tallied, Serves}
 use Rattle.engine.specs.declared.serving.Asked.{Asked}

@@ -19,19 +19,19 @@ use Rattle.model.specs.declared.Call.{Call}
 use Rattle.model.specs.declared.Verdict.the-variants.{Granted, Refused}
 use Rattle.model.proofs.Sizes.{length-transitions}
 use Rattle.model.proofs.Accepts.{length-read}
-use Rattle.net.specs.Reading.{relations-in, first-relations}
-use Rattle.net.specs.Tables.{Columns, Table, Filled, Composable}
+use Rattle.relations.specs.Reading.{relations-in, first-relations, Composable}
+use Rattle.net.specs.Tables.{Columns, Table, Filled}
 use Rattle.state.specs.View.{Replies, Shows, state, sound, sound-in, net-in, net-of, counts-of, opened-of, tally-in, tally-of}
 use Rattle.state.specs.declared.Engine.{Engine}
 use Rattle.state.specs.declared.Reply.{Reply}
-use Rattle.state.specs.declared.Ring.{Ring}
+use Rattle.slots.specs.declared.Ring.{Ring}
 use Rattle.state.specs.declared.Tally as Totals
 use Rattle.model.proofs.Effects.{explained}
 use Rattle.model.proofs.Replay.{reply-call}
 use Rattle.state.proofs.States.{Limits, sound-limits, sound-same, board-sound, replies}
 use Rattle.state.proofs.Triples.{relations-part}
 use Rattle.steps.specs.Steps.{Describes}
-use Rattle.engine.specs.Serving.{Slots, Running, Runs, state-at, Serves}
+use Rattle.engine.specs.Serving.{Slots, Running, Runs, state-at, Serves, moved}
 use Rattle.engine.specs.declared.serving.Served.{Served}
 
 -- the net in these fields, of which the first n capacities are used
@@ -110,24 +110,6 @@ pub state-sound : (e : Engine) (settled : List Request) → sound e ≡ true
     (record { granted = e .granted; refused = e .refused; undone = e .undone }) settled
 unfolding state
 state-sound e settled p = λ i. record { board = board-sound e settled p i; tally = tally-of e }
-
--- a sound engine with the arrays, the ring and the totals that a call left
-abbrev pub moved : Engine → Served → (counts requests markings : List ℕ) → Engine
-moved e s counts requests markings =
-    record {
-      n = e .n;
-      r = e .r;
-      capacities = e .capacities;
-      relations = e .relations;
-      counts = counts;
-      requests = requests;
-      markings = markings;
-      first = s .ring .first;
-      opened = s .ring .opened;
-      granted = s .tally .granted;
-      refused = s .tally .refused;
-      undone = s .tally .undone;
-    }
 
 -- what a call does to the arrays of a sound engine it does to the engine
 pub replies-sound : (call : Call) (e : Engine) → sound e ≡ true → (call′ : Call) → call′ ≡ call → (s : Served) (counts′ requests′ markings′ : List ℕ)

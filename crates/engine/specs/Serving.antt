@@ -5,13 +5,17 @@ use mathlib.Core.Path.{_≡_}
 use mathlib.Core.List.{List}
 use lib.ListN.{length}
 use Rattle.model.specs.Relations.{Net}
-use Rattle.model.specs.Machine.{Request, State, Board, respond, reply, tally-after}
+use Rattle.model.specs.Machine.{Request, call-of, State, Board, respond, reply, tally-after}
 use Rattle.model.specs.declared.Call.{Call}
+use Rattle.model.specs.declared.Call.the-variants.{Undo, Settle}
 use Rattle.net.specs.Tables.{Columns}
 use Rattle.state.specs.View.{board-in, tally-in}
-use Rattle.state.specs.declared.Ring.{Ring}
+use Rattle.slots.specs.declared.Ring.{Ring}
 use Rattle.state.specs.declared.Tally.{Tally}
+use Rattle.state.specs.declared.Engine.{Engine}
 use Rattle.steps.specs.Steps.{Describes}
+use Rattle.engine.specs.declared.serving.Kind.{Kind}
+use Rattle.engine.specs.declared.serving.Kind.the-variants.{Asks, Undoes, Settles}
 use Rattle.engine.specs.declared.serving.Asked.{Asked}
 use Rattle.engine.specs.declared.serving.Served.{Served}
 
@@ -58,6 +62,12 @@ pub record Tallied (a : Asked) (tally : Tally) (call : Call) (r : Served) : Type
   pub ring : r .ring ≡ a .ring
   pub tally-is : tally-in (r .tally) ≡ tally-after (tally-in tally) call (a .answer .verdict)
 
+-- the kind of a call
+abbrev pub IsKind : Kind → Call → Type 0
+IsKind (Asks on c) call = call ≡ call-of (record { on = on; context = c })
+IsKind Undoes call = call ≡ Undo
+IsKind Settles call = call ≡ Settle
+
 -- The same with the totals: what a call leaves.
 pub record Serves (net : Net) (call : Call) (counts requests markings : List ℕ) (ring : Ring) (tally : Tally) (counts′ requests′ markings′ : List ℕ) (a : Served) : Type 0 where
   pub answer : (settled : List Request) → a .answer ≡ respond (state-at net counts requests markings ring tally settled) call .answer
@@ -67,3 +77,21 @@ pub record Serves (net : Net) (call : Call) (counts requests markings : List ℕ
       ≡ respond (state-at net counts requests markings ring tally settled) call .state
   pub slots : Slots requests′ markings′
   pub few-open : a .ring .opened ≤ 32
+
+-- an engine with the arrays, the ring and the totals that a call left
+abbrev pub moved : Engine → Served → (counts requests markings : List ℕ) → Engine
+moved e s counts requests markings =
+    record {
+      n = e .n;
+      r = e .r;
+      capacities = e .capacities;
+      relations = e .relations;
+      counts = counts;
+      requests = requests;
+      markings = markings;
+      first = s .ring .first;
+      opened = s .ring .opened;
+      granted = s .tally .granted;
+      refused = s .tally .refused;
+      undone = s .tally .undone;
+    }

@@ -3,14 +3,16 @@ ghost use mathlib.Core.Bool.{true, false};
 ghost use mathlib.Core.Path.{_≡_};
 ghost use Rattle.model.specs.Machine.{call-of};
 ghost use Rattle.state.specs.View.{Replies, sound};
+ghost use Rattle.engine.specs.Serving.{moved};
 use crate::serving;
+use crate::serving::Served;
 use model::Answer;
 use model::Call;
 use model::NO_SUCH_CONTEXT;
 use model::Verdict;
+use slots::Ring;
 use state::Engine;
 use state::Reply;
-use state::Ring;
 use state::Tally;
 
 // The call that makes a request.
@@ -48,6 +50,30 @@ fn refuse(mut e: Engine, on: bool, c: usize) -> Reply
         },
         engine: e,
     }
+}
+
+// The reply of a call that left these arrays, and the rest in s.
+fn moved(
+    mut e: Engine,
+    s: Served,
+    counts: [u8; 48],
+    requests: [u16; 32],
+    markings: [u8; 1536],
+) -> Reply
+    ensures { λ r. ⌜ r ≡ record { answer = s .answer; engine = moved e s counts requests markings } ⌝ }
+{
+    let ring = s.ring;
+    let tally = s.tally;
+    let answer = s.answer;
+    e.counts = counts;
+    e.requests = requests;
+    e.markings = markings;
+    e.first = ring.first;
+    e.opened = ring.opened;
+    e.granted = tally.granted;
+    e.refused = tally.refused;
+    e.undone = tally.undone;
+    Reply { answer, engine: e }
 }
 
 // A request on a sound engine: the net is composed, and the step runs on it.
@@ -89,18 +115,7 @@ fn request(mut e: Engine, on: bool, c: usize) -> Reply
         },
         call_of(on, c),
     );
-    let ring = s.ring;
-    let tally = s.tally;
-    let answer = s.answer;
-    e.counts = counts;
-    e.requests = requests;
-    e.markings = markings;
-    e.first = ring.first;
-    e.opened = ring.opened;
-    e.granted = tally.granted;
-    e.refused = tally.refused;
-    e.undone = tally.undone;
-    Reply { answer, engine: e }
+    moved(e, s, counts, requests, markings)
 }
 
 // A request on any engine.

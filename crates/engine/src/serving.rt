@@ -7,12 +7,12 @@ ghost use Rattle.model.specs.Relations.{Net};
 ghost use Rattle.model.specs.Machine.{call-of};
 ghost use Rattle.model.specs.declared.Call.the-variants.{Undo, Settle};
 ghost use Rattle.net.specs.Tables.{columns};
-ghost use Rattle.engine.specs.Serving.{Slots, Runs, Running, Answers, Tallied, Serves};
+ghost use Rattle.engine.specs.Serving.{Slots, Runs, Running, Answers, Tallied, IsKind, Serves};
 use model::Answer;
 use model::Call;
 use model::NOTHING_OPEN;
 use model::Verdict;
-use state::Ring;
+use slots::Ring;
 use state::Tally;
 
 // A call's answer, and where the open list then stands.
@@ -26,6 +26,13 @@ pub struct Served {
     pub answer: Answer,
     pub ring: Ring,
     pub tally: Tally,
+}
+
+// The three kinds of call: a request carries whether it activates, and its context.
+pub enum Kind {
+    Asks(bool, usize),
+    Undoes,
+    Settles,
 }
 
 // The counts, to be kept with a request that is granted.
@@ -80,8 +87,8 @@ fn request<'a>(
     let verdict = answer.verdict;
     match verdict {
         Verdict::Granted => {
-            let item = state::request_number(on, c);
-            let joined = state::push(&before, requests, markings, ring, item);
+            let item = slots::request_number(on, c);
+            let joined = slots::push(&before, requests, markings, ring, item);
             Asked {
                 answer,
                 ring: joined,
@@ -107,7 +114,7 @@ fn undo(counts: &mut [u8; 48], requests: &[u16; 32], markings: &[u8; 1536], ring
         };
     }
     let mut before = [0u8; 48];
-    let left = state::take_back(&mut before, markings, ring);
+    let left = slots::take_back(&mut before, markings, ring);
     *counts = before;
     Asked {
         answer: Answer {
@@ -149,6 +156,18 @@ fn tallied(a: Asked, tally: Tally, call: Call) -> Served
     }
 }
 
+// What a call is: a request with its direction, an undo or a settling.
+fn kind_of(call: Call) -> Kind
+    ensures { λ r. ⌜ IsKind r call ⌝ }
+{
+    match call {
+        Call::Activate(c) => Kind::Asks(true, c),
+        Call::Deactivate(c) => Kind::Asks(false, c),
+        Call::Undo => Kind::Undoes,
+        Call::Settle => Kind::Settles,
+    }
+}
+
 // One call. The caller's arrays hold a net.
 pub fn serve<'a>(
     priority: &'a [u8; 192],
@@ -173,8 +192,8 @@ pub fn serve<'a>(
     requires { ⌜ Runs n t (columns (now priority) (now takesContext) (now takesPr) (now takesNot) (now givesContext) (now givesPr) (now givesNot) (now inhibContext) (now inhibPr)) (now capacities) (now requests) (now markings) ring ⌝ }
     ensures { λ r. ⌜ ((net : Net) → Running net n t (columns (now (priority .entry)) (now (takesContext .entry)) (now (takesPr .entry)) (now (takesNot .entry)) (now (givesContext .entry)) (now (givesPr .entry)) (now (givesNot .entry)) (now (inhibContext .entry)) (now (inhibPr .entry))) (now (capacities .entry)) (now (requests .entry)) (now (markings .entry)) ring → Serves net call (now (counts .entry)) (now (requests .entry)) (now (markings .entry)) ring tally (now (counts .exit)) (now (requests .exit)) (now (markings .exit)) r) ⌝ }
 {
-    match call {
-        Call::Activate(c) => {
+    match kind_of(call) {
+        Kind::Asks(on, c) => {
             let a = request(
                 priority,
                 takesContext,
@@ -192,35 +211,12 @@ pub fn serve<'a>(
                 requests,
                 markings,
                 ring,
-                true,
+                on,
                 c,
             );
             tallied(a, tally, call)
         }
-        Call::Deactivate(c) => {
-            let a = request(
-                priority,
-                takesContext,
-                takesPr,
-                takesNot,
-                givesContext,
-                givesPr,
-                givesNot,
-                inhibContext,
-                inhibPr,
-                t,
-                n,
-                capacities,
-                counts,
-                requests,
-                markings,
-                ring,
-                false,
-                c,
-            );
-            tallied(a, tally, call)
-        }
-        Call::Undo => tallied(undo(counts, requests, markings, ring), tally, call),
-        Call::Settle => tallied(settle(counts, requests, markings, ring), tally, call),
+        Kind::Undoes => tallied(undo(counts, requests, markings, ring), tally, call),
+        Kind::Settles => tallied(settle(counts, requests, markings, ring), tally, call),
     }
 }

@@ -8,10 +8,10 @@ use lib.ListN.{length, set, length-set}
 use borrow.Author.Tests.{ne-eqb}
 use Rattle.model.specs.declared.Call.{Call}
 use Rattle.model.specs.declared.Call.the-variants.{Activate, Deactivate, Undo, Settle}
-use Rattle.image.specs.Bytes.{put}
-use Rattle.image.proofs.Puts.{put-one, put-next}
+use Rattle.records.specs.Bytes.{put}
+use Rattle.records.proofs.Puts.{put-one, put-next}
 use Rattle.model.specs.Relations.{Net}
-use Rattle.state.specs.declared.Ring.{Ring}
+use Rattle.slots.specs.declared.Ring.{Ring}
 use Rattle.state.specs.declared.Tally.{Tally}
 use Rattle.engine.specs.Serving.{Serves}
 use Rattle.engine.specs.declared.serving.Served.{Served}

@@ -15,14 +15,15 @@ use Rattle.model.specs.Machine.{Event, Request, State, Board, respond, fresh, b
 use Rattle.model.specs.declared.Answer.{Answer}
 use Rattle.model.specs.declared.Call.{Call}
 use Rattle.model.proofs.Replay.{after-snoc, log-snoc}
-use Rattle.state.specs.View.{board-in, entries, counts-in}
-use Rattle.state.specs.declared.Ring.{Ring}
+use Rattle.state.specs.View.{board-in}
+use Rattle.slots.specs.View.{entries, counts-in}
+use Rattle.slots.specs.declared.Ring.{Ring}
 use Rattle.state.specs.declared.Tally.{Tally}
 use Rattle.state.proofs.States.{zeros-in}
 use Rattle.engine.specs.Serving.{state-at, Serves}
 use Rattle.engine.specs.declared.serving.Served.{Served}
-use Rattle.image.specs.Bytes.{put}
-use Rattle.image.proofs.Puts.{put-next, put-none, length-put, concat-map-append}
+use Rattle.records.specs.Bytes.{put}
+use Rattle.records.proofs.Puts.{put-next, put-none, length-put, concat-map-append}
 use Rattle.history.specs.Reports.{call-in, calls-in, unknown-call, no-calls, answer-bytes, answers-of}
 use Rattle.history.specs.Running.{Answered, Led, Ended}
 use Rattle.history.specs.declared.lists.Ending.{Ending}

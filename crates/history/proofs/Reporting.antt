@@ -18,16 +18,17 @@ use Rattle.model.specs.Image.{edition-1, load}
 use Rattle.model.proofs.Replay.{after-net}
 use Rattle.model.proofs.Sizes.{length-range}
 use Rattle.model.proofs.Tests.{or-false-left, or-false-right}
-use Rattle.net.specs.Reading.{relations-in}
-use Rattle.net.specs.Tables.{Columns, Filled, Composable}
-use Rattle.net.proofs.Reading.{length-first}
-use Rattle.state.specs.View.{state, sound, net-in, net-of, counts-in, tally-in}
+use Rattle.relations.specs.Reading.{relations-in, Composable}
+use Rattle.net.specs.Tables.{Columns, Filled}
+use Rattle.relations.proofs.Reading.{length-first}
+use Rattle.state.specs.View.{state, sound, net-in, net-of, tally-in}
+use Rattle.slots.specs.View.{counts-in}
 use Rattle.state.specs.declared.Engine.{Engine}
 use Rattle.state.proofs.States.{Limits, sound-limits}
 use Rattle.steps.specs.Steps.{Describes}
 use Rattle.engine.proofs.Describing.{composable, described, few-of}
-use Rattle.image.specs.Bytes.{put}
-use Rattle.image.proofs.Puts.{put-next, put-start, length-put}
+use Rattle.records.specs.Bytes.{put}
+use Rattle.records.proofs.Puts.{put-next, put-start, length-put}
 use Rattle.history.specs.Chains.{loaded}
 use Rattle.history.specs.Reports.{Ran, calls-in, unknown-call, no-calls, answer-bytes, answers-of, tally-bytes, state-bytes, report, ran}
 use Rattle.history.specs.Running.{Held, Ended, Reports}

@@ -8,13 +8,14 @@ use Rattle.model.specs.Relations.{Net}
 use Rattle.model.specs.Machine.{fresh, after}
 use Rattle.model.specs.declared.Call.{Call}
 use Rattle.net.specs.Tables.{Columns}
-use Rattle.state.specs.View.{counts-in, tally-in}
-use Rattle.state.specs.declared.Ring.{Ring}
+use Rattle.slots.specs.View.{counts-in}
+use Rattle.state.specs.View.{tally-in}
+use Rattle.slots.specs.declared.Ring.{Ring}
 use Rattle.state.specs.declared.Tally.{Tally}
 use Rattle.steps.specs.Steps.{Describes}
 use Rattle.engine.specs.Serving.{Serves, state-at}
 use Rattle.engine.specs.declared.serving.Served.{Served}
-use Rattle.image.specs.Bytes.{put}
+use Rattle.records.specs.Bytes.{put}
 use Rattle.history.specs.Reports.{answer-bytes, calls-in, answers-of, report}
 use Rattle.history.specs.declared.lists.Ending.{Ending}
 

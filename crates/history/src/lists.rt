@@ -7,9 +7,8 @@ ghost use lib.ListN.{length, getD, take};
 ghost use Rattle.model.specs.Machine.{fresh};
 ghost use Rattle.state.specs.View.{state, tally-in};
 ghost use Rattle.model.specs.Relations.{Net};
-ghost use Rattle.model.specs.Refusals.{verdict-number};
 ghost use Rattle.net.specs.Tables.{columns};
-ghost use Rattle.image.specs.Bytes.{put};
+ghost use Rattle.records.specs.Bytes.{put};
 ghost use Rattle.steps.specs.Steps.{Describes};
 ghost use Rattle.engine.specs.Serving.{Runs, Running};
 ghost use Rattle.history.specs.Reports.{call-in, no-calls, answer-bytes, tally-bytes, ran};
@@ -17,23 +16,15 @@ ghost use Rattle.history.specs.Running.{Answered, Held, Ended, Reports};
 use engine::Served;
 use model::Answer;
 use model::Call;
-use model::Verdict;
+use slots::Ring;
 use state::Engine;
-use state::Ring;
 use state::Tally;
-
-// A number of two bytes, the low one first.
-fn pair(low: u8, high: u8) -> usize
-    ensures { λ r. ⌜ r ≡ low + 256 * high ⌝ }
-{
-    low as usize + 256 * high as usize
-}
 
 // The call in three bytes.
 fn call_of(k: u8, low: u8, high: u8) -> Call
     ensures { λ r. ⌜ r ≡ call-in k low high ⌝ }
 {
-    let c = pair(low, high);
+    let c = layout::pair(low, high);
     match k {
         0 => Call::Activate(c),
         1 => Call::Deactivate(c),
@@ -50,16 +41,6 @@ fn call_at(calls: &[u8], i: usize) -> Call
     call_of(calls[i], calls[i + 1], calls[i + 2])
 }
 
-// 0, or the refusal.
-fn number_of(verdict: Verdict) -> u8
-    ensures { λ r. ⌜ r ≡ verdict-number verdict ⌝ }
-{
-    match verdict {
-        Verdict::Granted => 0,
-        Verdict::Refused(k) => k,
-    }
-}
-
 // Writes an answer's three bytes from byte i on. The caller has room for them.
 fn write_answer(out: &mut [u8], i: usize, answer: Answer)
     requires { ⌜ i + 2 < length (now out) ⌝ }
@@ -67,7 +48,7 @@ fn write_answer(out: &mut [u8], i: usize, answer: Answer)
 {
     let verdict = answer.verdict;
     let firings = answer.firings;
-    out[i] = number_of(verdict);
+    out[i] = model::number(verdict);
     out[i + 1] = (firings % 256) as u8;
     out[i + 2] = (firings / 256 % 256) as u8;
 }
@@ -249,8 +230,8 @@ fn write_state(out: &mut [u8], at: usize, n: usize, end: Ending)
 {
     let counts = end.counts;
     let totals = total_bytes(end.tally);
-    image::copy(out, at, &counts[..n]);
-    image::copy(out, at + n, &totals);
+    records::copy(out, at, &counts[..n]);
+    records::copy(out, at + n, &totals);
 }
 
 // Runs a list of calls on a fresh engine. The caller's calls are whole and known.
@@ -258,8 +239,8 @@ fn run_on(e: Engine, calls: &[u8], out: &mut [u8]) -> usize
     requires { ⌜ length (now calls) % 3 ≡ 0 ⌝ }
     ensures { λ r. ⌜ ((net : Net) → state e [] ≡ fresh net → Reports net (now (calls .entry)) (now (out .entry)) r (now (out .exit))) ⌝ }
 {
-    let n = state::contexts(e);
-    let m = 3 * state::relation_count(e);
+    let n = readings::contexts(e);
+    let m = 3 * readings::relation_count(e);
     let size = calls.len();
     if out.len() < n + 12 {
         return 0;

@@ -12,11 +12,11 @@ use Rattle.model.specs.Refusals.{refuse, first-refusal, is-granted}
 use Rattle.model.specs.Image.{edition-1, image, given-net, compose, compose-checks}
 use Rattle.model.specs.declared.Verdict.{Verdict}
 use Rattle.model.specs.declared.Verdict.the-variants.{Refused}
-use Rattle.image.specs.Bytes.{put}
+use Rattle.records.specs.Bytes.{put}
 use Rattle.image.specs.Composing.{Answers, given-checks}
 use Rattle.image.specs.declared.composing.Composed.the-variants
-use Rattle.image.proofs.Puts.{put-start}
-use Rattle.image.proofs.Verdicts.{refused-before, granted-before}
+use Rattle.records.proofs.Puts.{put-start}
+use Rattle.layout.proofs.Verdicts.{refused-before, granted-before}
 use Rattle.image.proofs.Given.{Given}
 
 module _ (caps bs out : List ℕ) where

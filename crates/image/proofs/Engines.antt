@@ -12,14 +12,14 @@ use Rattle.model.specs.Relations.{Net, empty-net, misfit}
 use Rattle.model.specs.Image.{Trailer, edition-1, read-relations, net-of, trailer-of, load}
 use Rattle.model.specs.declared.Verdict.the-variants.{Granted}
 use Rattle.model.proofs.Accepts.{loaded-fits}
-use Rattle.net.proofs.Reading.{first-part}
+use Rattle.relations.proofs.Reading.{first-part}
 use Rattle.state.specs.View.{net-in, sound-in}
 use Rattle.state.proofs.States.{sound-made}
-use Rattle.image.specs.Bytes.{put}
-use Rattle.image.specs.Loading.{LaidOut, relation-part}
-use Rattle.image.proofs.Puts.{put-start}
-use Rattle.image.proofs.Parts.{length-capacities, length-relations}
-use Rattle.image.proofs.Loads.{laid-by, net-by}
+use Rattle.records.specs.Bytes.{put}
+use Rattle.layout.specs.Layout.{LaidOut, relation-part}
+use Rattle.records.proofs.Puts.{put-start}
+use Rattle.layout.proofs.Parts.{length-capacities, length-relations}
+use Rattle.layout.proofs.Loads.{laid-by, net-by}
 
 -- bytes put at the start of an array are found there again
 take-put : (l bytes : List ℕ) (k : ℕ) → length bytes ≡ k → take k (put l 0 bytes) ≡ bytes

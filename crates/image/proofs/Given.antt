@@ -1,15 +1,15 @@
 -- The image of a list that is given as bytes, part by part; and what a list has that no check refuses.
 -- Assumes nothing.
-use Prim.Native.Nat.{ℕ, suc, _+_, _*_, _/_, _%_, _<_, _≤_}
+use Prim.Native.Nat.{ℕ, _+_, _*_, _/_, _%_, _≤_}
 use native.Mathlib.Omega.{arith}
 use mathlib.Core.Path.{_≡_, sym, _∙_}
 use mathlib.Core.Bool.{not}
-use mathlib.Core.List.{List, [], _∷_, _++_, append-assoc}
+use mathlib.Core.List.{List, _++_, append-assoc}
 use lib.Dec.{eqb}
 use borrow.Author.Tests.{eqb-true, not-false}
-use lib.ListN.{length, getD}
+use lib.ListN.{length}
 use lib.Seq.{take-all}
-use Rattle.model.specs.Sets.{Each, nil, cons, IsByte, concat-map}
+use Rattle.model.specs.Sets.{Each, cons, IsByte, concat-map}
 use Rattle.model.specs.Refusals.{first-refusal}
 use Rattle.model.specs.Transitions.{transitions-of}
 use Rattle.model.specs.Image.{edition-1, record-bytes, relation-bytes, records, trailer, trailer-bytes, image, given-net, bad-sizes}
@@ -20,16 +20,10 @@ use Rattle.model.proofs.Checks.{granted-passes}
 use Rattle.model.proofs.Images.{limits}
 use Rattle.model.proofs.Sizes.{length-image}
 use Rattle.model.proofs.Accepts.{relations-written}
-use Rattle.net.specs.Reading.{relations-in}
-use Rattle.net.specs.Tables.{Composable}
-use Rattle.net.proofs.Reading.{length-relations-in}
-use Rattle.net.proofs.Counting.{extras-few, transition-total}
+use Rattle.relations.specs.Reading.{relations-in, Composable}
+use Rattle.relations.proofs.Reading.{length-relations-in}
+use Rattle.transitions.proofs.Counting.{extras-few, transition-total}
 use Rattle.image.specs.Composing.{given-checks}
-
--- a list whose every element is below 256 is one of bytes
-pub bytes-each : (l : List ℕ) → ((i : ℕ) → getD l i 0 < 256) → Each IsByte l
-bytes-each [] h = nil
-bytes-each (x ∷ xs) h = cons (h 0) (bytes-each xs (λ i. h (suc i)))
 
 module _ (caps bs : List ℕ) where
   -- the records and the trailer of the list's net

@@ -1,13 +1,5 @@
-pub mod Puts
-pub mod Words
-pub mod Verdicts
 pub mod Given
-pub mod Agrees
-pub mod Blocks
-pub mod Reaching
 pub mod Answering
-pub mod Parts
-pub mod Loads
 pub mod Engines
 pub mod Lists
 pub mod Roundtrip

@@ -16,12 +16,12 @@ use Rattle.model.specs.declared.Verdict.{Verdict}
 use Rattle.model.specs.declared.Verdict.the-variants.{Granted, Refused}
 use Rattle.model.proofs.Tests.{each-drop}
 use Rattle.model.proofs.Accepts.{length-read, relations-written}
-use Rattle.image.specs.Bytes.{put}
-use Rattle.image.specs.Loading.{LaidOut}
+use Rattle.records.specs.Bytes.{put}
+use Rattle.layout.specs.Layout.{LaidOut}
 use Rattle.image.specs.Listing.{Listed, listing, listed}
-use Rattle.image.proofs.Puts.{put-start}
-use Rattle.image.proofs.Parts.{length-capacities}
-use Rattle.image.proofs.Loads.{laid-by, net-by}
+use Rattle.records.proofs.Puts.{put-start}
+use Rattle.layout.proofs.Parts.{length-capacities}
+use Rattle.layout.proofs.Loads.{laid-by, net-by}
 
 module _ (img : List ℕ) (e : Trailer) (laid : LaidOut img e) where
   -- where the records begin

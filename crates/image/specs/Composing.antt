@@ -13,8 +13,7 @@ use Rattle.model.specs.Image
 use Rattle.model.specs.Image.{edition-1, bad-sizes, net-checks, given-net, relation-size}
 use Rattle.model.specs.declared.Verdict.{Verdict}
 use Rattle.model.specs.declared.Verdict.the-variants
-use Rattle.net.specs.Reading.{relations-in}
-use Rattle.net.specs.Tables.{Composable}
+use Rattle.relations.specs.Reading.{relations-in, Composable}
 use Rattle.image.specs.declared.composing.Composed.{Composed}
 use Rattle.image.specs.declared.composing.Composed.the-variants.{Length, Refused}
 

@@ -1,4 +1,3 @@
-pub mod Bytes
 pub mod Composing
 pub mod Loading
 pub mod Listing

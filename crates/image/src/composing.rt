@@ -4,21 +4,21 @@ ghost use mathlib.Core.Bool.{true};
 ghost use mathlib.Core.List.{[]};
 ghost use Rattle.model.specs.Refusals.{first-refusal, is-granted};
 ghost use Rattle.model.specs.Image.{edition-1, image, given-net, compose};
-ghost use Rattle.net.specs.Reading.{relations-in};
-ghost use Rattle.net.specs.Links.{Linked};
-ghost use Rattle.image.specs.Bytes.{put};
+ghost use Rattle.relations.specs.Reading.{relations-in};
+ghost use Rattle.relations.specs.Links.{Linked};
+ghost use Rattle.records.specs.Bytes.{put};
 ghost use Rattle.image.specs.Composing.{Answers, Writable, given-checks};
 use crate::checks::judge_list;
-use crate::checks::wrong_sizes;
-use crate::limits::RECORD_SIZE;
-use crate::limits::RELATION_SIZE;
-use crate::limits::TRAILER_SIZE;
-use crate::writing::copy;
-use crate::writing::write_composed;
-use crate::writing::write_trailer;
+use layout::RECORD_SIZE;
+use layout::RELATION_SIZE;
+use layout::TRAILER_SIZE;
+use layout::wrong_sizes;
 use model::SHORT_OUTPUT;
 use model::Verdict;
 use model::WRONG_SIZES;
+use records::copy;
+use records::write_composed;
+use records::write_trailer;
 
 // What composing answers: the image's length, or the refusal's number.
 pub enum Composed {
@@ -62,7 +62,7 @@ pub fn compose(capacities: &[u8], relations: &[u8], out: &mut [u8]) -> Composed
         return Composed::Refused(k);
     }
     let n = capacities.len();
-    let t = net::count(n, relations);
+    let t = transitions::count(n, relations);
     let length = n + relations.len() + RECORD_SIZE * t + TRAILER_SIZE;
     if out.len() < length {
         return Composed::Refused(SHORT_OUTPUT);

@@ -1,12 +1,8 @@
 // The image of a net: composed into a lent buffer, loaded from lent bytes, and listed again.
 mod checks;
-mod comparing;
 mod composing;
-mod limits;
 mod listing;
 mod loading;
-mod trailers;
-mod writing;
 
 pub use composing::Composed;
 pub use composing::compose;
@@ -16,4 +12,3 @@ pub use loading::Loaded;
 pub use loading::check;
 pub use loading::load;
 pub use loading::records;
-pub use writing::copy;

@@ -4,15 +4,15 @@ ghost use mathlib.Core.List.{_∷_};
 ghost use Prim.Native.Nat.{ℕ, _+_, _*_, _≤_};
 ghost use lib.ListN.{length, take};
 ghost use Rattle.model.specs.Image.{edition-1, load};
-ghost use Rattle.image.specs.Bytes.{put};
-ghost use Rattle.image.specs.Loading.{LaidOut, trailer-as};
+ghost use Rattle.records.specs.Bytes.{put};
+ghost use Rattle.layout.specs.Layout.{LaidOut, trailer-as};
 ghost use Rattle.image.specs.Listing.{listed};
-use crate::limits::TRAILER_SIZE;
 use crate::loading::check;
-use crate::trailers::Trailer;
-use crate::trailers::trailer_of;
-use crate::writing::copy;
+use layout::TRAILER_SIZE;
+use layout::Trailer;
+use layout::trailer_of;
 use model::Verdict;
+use records::copy;
 
 // The verdict of loading, and the number of bytes written.
 pub struct Listed {

@@ -6,24 +6,24 @@ ghost use lib.ListN.{length};
 ghost use Rattle.model.specs.Refusals.{first-refusal};
 ghost use Rattle.model.specs.Machine.{fresh};
 ghost use Rattle.model.specs.Image.{edition-1, load};
-ghost use Rattle.net.specs.Reading.{relations-in};
-ghost use Rattle.net.specs.Links.{Linked};
-ghost use Rattle.net.specs.Tables.{Composable};
+ghost use Rattle.relations.specs.Reading.{relations-in, Composable};
+ghost use Rattle.relations.specs.Links.{Linked};
 ghost use Rattle.state.specs.View.{state};
-ghost use Rattle.image.specs.Loading.{Loads, LaidOut, trailer-as, part-checks, differs};
+ghost use Rattle.image.specs.Loading.{Loads};
+ghost use Rattle.layout.specs.Layout.{LaidOut, trailer-as, part-checks, differs};
 use crate::checks::judge_list;
-use crate::comparing::same_composed;
-use crate::limits::TRAILER_SIZE;
-use crate::trailers::Trailer;
-use crate::trailers::judge_trailer;
-use crate::trailers::record_part;
-use crate::trailers::relation_part;
-use crate::trailers::trailer_of;
-use crate::trailers::wide;
-use crate::writing::copy;
+use layout::TRAILER_SIZE;
+use layout::Trailer;
+use layout::judge_trailer;
+use layout::record_part;
+use layout::relation_part;
+use layout::trailer_of;
+use layout::wide;
 use model::SHORT_IMAGE;
 use model::Verdict;
 use model::WRONG_RECORDS;
+use records::copy;
+use records::same_composed;
 use state::Engine;
 
 // Refusal 9: n contexts and the relations make another number of transitions, or other records. The list has passed its checks.
@@ -33,7 +33,7 @@ fn other_net(n: usize, relations: &[u8], links: &[u64; 240], t: usize, records: 
     requires { ⌜ length (now records) ≡ 49 * t ⌝ }
     ensures { λ b. ⌜ b ≡ differs t n (relations-in (now (relations .entry))) (now (records .entry)) ⌝ }
 {
-    if net::count(n, relations) != t {
+    if transitions::count(n, relations) != t {
         return true;
     }
     !same_composed(records, links, n, relations)

@@ -3,5 +3,3 @@ pub mod Decimals
 pub mod Saying
 pub mod Spelling
 pub mod Keeping
-pub mod Contexts
-pub mod Storing

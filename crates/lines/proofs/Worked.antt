@@ -4,12 +4,7 @@ use mathlib.Core.Path.{refl}
 use Rattle.model.specs.Sets.{Each, nil, cons}
 use Rattle.lines.specs.Decimals.{spelled, decimal}
 use Rattle.lines.specs.Calls.{call-text, askable, said}
-use Rattle.lines.specs.Answers.{context-text, contexts-text, answer-text}
-use Rattle.lines.specs.Examples.{Correct, printed, spoken, unspoken}
-
-pub printed-hold : Each Correct printed
-unfolding printed spelled decimal call-text context-text contexts-text answer-text
-printed-hold = cons refl (cons refl (cons refl (cons refl (cons refl (cons refl (cons refl (cons refl (cons refl nil))))))))
+use Rattle.lines.specs.Examples.{Correct, spoken, unspoken}
 
 pub spoken-hold : Each Correct spoken
 unfolding spoken spelled decimal call-text askable said

@@ -1,6 +1,5 @@
-// The lines of text that the program bench-run reads and prints (document 01, "Six conditions").
+// The lines of text that the program bench-run reads: which call a line is (document 01, "Six conditions").
 mod reading;
-mod writing;
 
 pub use reading::Line;
 pub use reading::Said;
@@ -8,5 +7,3 @@ pub use reading::begin;
 pub use reading::meaning;
 pub use reading::pending;
 pub use reading::push;
-pub use writing::answer;
-pub use writing::no_call;

@@ -1,14 +1,11 @@
 // What the programs share that print listings to be compared with those of `reference`: a hash, reading, and text.
 ghost use mathlib.Core.Path.{_≡_};
-ghost use Prim.Native.Nat.{_+_, _*_, _<_};
 ghost use lib.ListN.{take};
 ghost use Rattle.model.specs.Image.{bytes};
-ghost use Rattle.model.specs.Refusals.{verdict-number};
 ghost use Rattle.io.specs.Counts.{Counts};
 ghost use Rattle.listing.specs.Hash.{folded, hashed};
 use libc::STDIN_FILENO;
 use libc::STDOUT_FILENO;
-use model::Verdict;
 
 mod loads;
 
@@ -62,24 +59,6 @@ pub fn hash_number(h: u64, x: u64, k: usize) -> u64
         i += 1;
     }
     sum
-}
-
-// A number of two bytes, the low one first.
-pub fn pair(low: u8, high: u8) -> usize
-    ensures { λ r. ⌜ r ≡ low + 256 * high ⌝ }
-    ensures { λ r. ⌜ r < 65536 ⌝ }
-{
-    low as usize + 256 * high as usize
-}
-
-// The verdict's number: 0, or the refusal's.
-pub fn number(verdict: Verdict) -> u8
-    ensures { λ r. ⌜ r ≡ verdict-number verdict ⌝ }
-{
-    match verdict {
-        Verdict::Granted => 0,
-        Verdict::Refused(k) => k,
-    }
 }
 
 // Reads k bytes of standard input to the buffer's start, and answers how many came: fewer where the input ends or the buffer does.

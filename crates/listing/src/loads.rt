@@ -3,9 +3,9 @@ use crate::BLANK;
 use crate::LINE_END;
 use crate::hash;
 use crate::hash_front;
-use crate::number;
 use crate::print;
 use model::Verdict;
+use model::number;
 use state::Engine;
 
 // How many bytes r relations have, of the 288 that an engine holds.

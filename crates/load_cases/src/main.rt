@@ -14,7 +14,7 @@ fn input() -> [u8; 16384]
 
 // The verdict on an image as a digit: no refusal of a load has two.
 fn digit(image: &[u8]) -> u8 {
-    let k = listing::number(image::check(image));
+    let k = model::number(image::check(image));
     if k < 10 { b'0' + k } else { b'?' }
 }
 

@@ -1,5 +1,7 @@
 // The public words of the machine. What they mean is in specs/: Machine.antt for the calls and their answers,
 // Refusals.antt for a verdict's number.
+ghost use mathlib.Core.Path.{_≡_};
+ghost use Rattle.model.specs.Refusals.{verdict-number};
 
 // The four calls; a request carries the number of its context.
 pub enum Call {
@@ -13,6 +15,16 @@ pub enum Call {
 pub enum Verdict {
     Granted,
     Refused(u8),
+}
+
+// The number that stands for a verdict in answers and listings: 0, or the refusal's.
+pub fn number(verdict: Verdict) -> u8
+    ensures { λ r. ⌜ r ≡ verdict-number verdict ⌝ }
+{
+    match verdict {
+        Verdict::Granted => 0,
+        Verdict::Refused(k) => k,
+    }
 }
 
 // What a call is answered: the verdict, and how many transitions fired, also where they were rolled back.

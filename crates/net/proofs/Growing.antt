@@ -9,8 +9,9 @@ use mathlib.Core.Logic.{_≢_}
 use mathlib.Core.List.{List, [], _∷_, _++_, append-assoc, append-nil}
 use lib.ListN.{length, getD, set, length-set, length-append, List·getD-append}
 use lib.Seq.{getD-set-same, getD-set-other, getD-at}
-use Rattle.net.specs.Tables.{Holds, Columns, row, blank, Table, Sized, stored, Grown, Filled}
-use Rattle.net.specs.declared.tables.Arcs.{Arcs}
+use Rattle.transitions.specs.Arcs.{Holds}
+use Rattle.net.specs.Tables.{Columns, row, blank, Table, Sized, stored, Grown, Filled}
+use Rattle.transitions.specs.declared.Arcs.{Arcs}
 use Rattle.model.specs.Transitions.{Transition}
 
 pub sized-stored : (cols : Columns) (t : ℕ) (a : Arcs) → Sized cols → Sized (stored cols t a)

@@ -1,5 +1,1 @@
-pub mod Reading
-pub mod Linking
-pub mod Repeats
 pub mod Growing
-pub mod Counting

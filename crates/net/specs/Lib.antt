@@ -1,3 +1,1 @@
-pub mod Reading
-pub mod Links
 pub mod Tables

@@ -1,34 +1,14 @@
 -- How the arrays of a composed net are read: entry i of each is a word that holds a set of transition i.
 -- Assumes nothing.
-use Prim.Native.Nat.{ℕ, _+_, _<_, _≤_}
-use mathlib.Core.Bool.{false}
+use Prim.Native.Nat.{ℕ, _+_, _<_}
 use mathlib.Core.Path.{_≡_}
-use mathlib.Core.List.{List, [], _∷_, _++_}
+use mathlib.Core.List.{List, _++_}
 use lib.ListN.{length, getD, set}
-use Rattle.model.specs.Sets.{number, empty-set, any}
-use Rattle.model.specs.Relations.{misfit}
+use Rattle.model.specs.Sets.{empty-set}
 use Rattle.model.specs.Transitions.{Transition, activates}
-use Rattle.net.specs.Reading.{relations-in}
-use Rattle.net.specs.declared.tables.Arcs.{Arcs}
+use Rattle.transitions.specs.Arcs.{Holds}
+use Rattle.transitions.specs.declared.Arcs.{Arcs}
 use Rattle.net.specs.declared.tables.Tables.{Tables}
-
--- a word for each set of one transition
-pub record Holds (a : Arcs) (t : Transition) : Type 0 where
-  pub priority : a .priority ≡ t .priority
-  pub takesContext : a .takesContext ≡ number 64 (t .takesContext)
-  pub takesPr : a .takesPr ≡ number 64 (t .takesPr)
-  pub takesNot : a .takesNot ≡ number 64 (t .takesNot)
-  pub givesContext : a .givesContext ≡ number 64 (t .givesContext)
-  pub givesPr : a .givesPr ≡ number 64 (t .givesPr)
-  pub givesNot : a .givesNot ≡ number 64 (t .givesNot)
-  pub inhibContext : a .inhibContext ≡ number 64 (t .inhibContext)
-  pub inhibPr : a .inhibPr ≡ number 64 (t .inhibPr)
-
--- the words are those of the only transition of a list
-pub record HoldsOne (a : Arcs) (ts : List Transition) : Type 0 where
-  pub one : Transition
-  pub alone : ts ≡ one ∷ []
-  pub holds : Holds a one
 
 -- the contents of the nine arrays
 pub record Columns : Type 0 where
@@ -130,12 +110,6 @@ pub record Grown (before : Columns) (t : ℕ) (after : Columns) (u : ℕ) (more 
   pub sized : Sized before → Sized after
   pub count : u ≡ t + length more
   pub table : Sized before → (ts : List Transition) → Table before t ts → Table after u (ts ++ more)
-
--- n contexts and the relations of these bytes are within the limits of a net, and the relations passed check 6
-pub record Composable (n : ℕ) (bs : List ℕ) : Type 0 where
-  pub few : n ≤ 48
-  pub short : length bs ≤ 288
-  pub fits : any (misfit n) (relations-in bs) ≡ false
 
 -- the arrays hold t transitions, these, and have kept their sizes
 pub record Filled (cols : Columns) (t : ℕ) (ts : List Transition) : Type 0 where

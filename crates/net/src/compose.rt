@@ -1,17 +1,12 @@
 // The net of n contexts and a list of relations: its transitions by number, into the nine arrays.
-ghost use mathlib.Core.Path.{_≡_};
 ghost use mathlib.Core.List.{List};
 ghost use Prim.Native.Nat.{_+_, _*_, _<_, _≤_};
-ghost use lib.ListN.{length};
 ghost use Rattle.model.specs.Sets.{concat-map, range};
 ghost use Rattle.model.specs.Relations.{Relation};
 ghost use Rattle.model.specs.Transitions.{extra, context-transitions, extra-transitions, transitions-of};
-ghost use Rattle.net.specs.Reading.{relation, relations-in};
-ghost use Rattle.net.specs.Links.{Linked};
-ghost use Rattle.net.specs.Tables.{columns, columns-in, Sized, Grown, Composable, Filled};
-use crate::arcs;
-use crate::links;
-use crate::relations;
+ghost use Rattle.relations.specs.Reading.{relation, relations-in, Composable};
+ghost use Rattle.relations.specs.Links.{Linked};
+ghost use Rattle.net.specs.Tables.{columns, columns-in, Sized, Grown, Filled};
 use crate::tables;
 use crate::tables::Tables;
 
@@ -32,8 +27,8 @@ fn context(
     requires { ⌜ c < 48 ⌝ }
     ensures { λ _. ⌜ ((rels : List Relation) → Linked rels (now (links .entry)) → Grown (columns (now (priority .entry)) (now (takesContext .entry)) (now (takesPr .entry)) (now (takesNot .entry)) (now (givesContext .entry)) (now (givesPr .entry)) (now (givesNot .entry)) (now (inhibContext .entry)) (now (inhibPr .entry))) (2 * c) (columns (now (priority .exit)) (now (takesContext .exit)) (now (takesPr .exit)) (now (takesNot .exit)) (now (givesContext .exit)) (now (givesPr .exit)) (now (givesNot .exit)) (now (inhibContext .exit)) (now (inhibPr .exit))) (2 * (c + 1)) (context-transitions rels c)) ⌝ }
 {
-    let on = arcs::act_of(links, c);
-    let off = arcs::deac_of(links, c);
+    let on = transitions::act_of(links, c);
+    let off = transitions::deac_of(links, c);
     tables::store(
         priority,
         takesContext,
@@ -120,7 +115,7 @@ fn extra(
 {
     let it = match k {
         1 => return t,
-        _ => arcs::extra_of(links, k, a, b),
+        _ => transitions::extra_of(links, k, a, b),
     };
     tables::store(
         priority,
@@ -250,7 +245,7 @@ pub fn composed(n: usize, relations: &[u8]) -> Tables
     let mut inhibContext = [0u64; 192];
     let mut inhibPr = [0u64; 192];
     let mut links = [0u64; 240];
-    links::link_all(relations, &mut links);
+    relations::link_all(relations, &mut links);
     let t = fill(
         n,
         relations,
@@ -277,23 +272,4 @@ pub fn composed(n: usize, relations: &[u8]) -> Tables
         inhibContext,
         inhibPr,
     }
-}
-
-// How many transitions the net has: two for each context, and one for each relation of the kinds 2, 3 and 4.
-// The caller has run the check of sizes.
-pub fn count(n: usize, relations: &[u8]) -> usize
-    requires { ⌜ (n ≤ 48) × (length (now relations) ≤ 288) ⌝ }
-    ensures { λ r. ⌜ r ≡ length (transitions-of n (relations-in (now (relations .entry)))) ⌝ }
-{
-    let r = relations.len() / 3;
-    let mut t = 2 * n;
-    let mut i = 0;
-    while i < r {
-        match relations::kind_at(relations, i) {
-            2 | 3 | 4 => t += 1,
-            _ => {}
-        }
-        i += 1;
-    }
-    t
 }

@@ -2,19 +2,7 @@
 ghost use mathlib.Core.Path.{_≡_};
 ghost use Prim.Native.Nat.{_<_};
 ghost use Rattle.net.specs.Tables.{columns, row, stored};
-
-// One transition: its priority, and a word for each of its eight sets.
-pub struct Arcs {
-    pub priority: u8,
-    pub takesContext: u64,
-    pub takesPr: u64,
-    pub takesNot: u64,
-    pub givesContext: u64,
-    pub givesPr: u64,
-    pub givesNot: u64,
-    pub inhibContext: u64,
-    pub inhibPr: u64,
-}
+use transitions::Arcs;
 
 // The arrays of a whole net: the first t entries of each are in use.
 pub struct Tables {

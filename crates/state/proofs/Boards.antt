@@ -10,10 +10,11 @@ use Rattle.model.specs.Refusals.{nothing-open}
 use Rattle.model.specs.Machine.{Request, Entry, Board, open-limit, requests, without-firings, commit, undo-from, settle, reply}
 use Rattle.model.specs.declared.Call.the-variants.{Undo, Settle}
 use Rattle.model.specs.declared.Verdict.the-variants.{Granted, Refused}
-use Rattle.state.specs.declared.Ring.{Ring}
-use Rattle.state.specs.View.{counts-in, marking-in, request-in, slot, entry-in, entries, board-in}
-use Rattle.state.specs.Parts.{row, Pushed}
-use Rattle.state.proofs.Rings.{row-counts}
+use Rattle.slots.specs.declared.Ring.{Ring}
+use Rattle.slots.specs.View.{counts-in, marking-in, request-in, slot, entry-in, entries}
+use Rattle.state.specs.View.{board-in}
+use Rattle.slots.specs.Changes.{row, Pushed}
+use Rattle.slots.proofs.Rings.{row-counts}
 
 -- nothing is open
 pub undo-none : (b : Board) → b .opened ≡ [] → reply b Undo ≡ record { answer = without-firings (Refused nothing-open); board = b }

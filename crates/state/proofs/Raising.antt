@@ -10,7 +10,7 @@ use Rattle.model.specs.declared.Call.{Call}
 use Rattle.model.specs.declared.Call.the-variants.{Activate, Deactivate, Undo, Settle}
 use Rattle.model.specs.declared.Verdict.{Verdict}
 use Rattle.model.specs.declared.Verdict.the-variants.{Granted, Refused}
-use Rattle.state.specs.Parts.{raise}
+use Rattle.state.specs.Totals.{raise}
 
 -- a total that nothing is added to
 pub unraised : (x : ℕ) → x ≤ total-limit → x ≡ saturating-add x 0

@@ -11,9 +11,10 @@ use Rattle.model.specs.Machine.{Board, requests, saturating-add, open-limit, wi
 use Rattle.model.specs.declared.Call.the-variants.{Undo, Settle}
 use Rattle.model.specs.declared.Verdict.the-variants.{Granted, Refused}
 use Rattle.state.specs.declared.Engine.{Engine}
-use Rattle.state.specs.declared.Ring.{Ring}
-use Rattle.state.specs.View.{sound, slot, entries, net-in, net-of, counts-in, counts-of, opened-of, board-in, tally-of, state, Replies}
-use Rattle.state.specs.Parts.{TakenBack, row}
+use Rattle.slots.specs.declared.Ring.{Ring}
+use Rattle.state.specs.View.{sound, net-in, net-of, counts-of, opened-of, board-in, tally-of, state, Replies}
+use Rattle.slots.specs.View.{slot, entries, counts-in}
+use Rattle.slots.specs.Changes.{TakenBack, row}
 use Rattle.state.proofs.States.{cond-same, sound-limits, sound-same, sound-never, board-sound, replies}
 use Rattle.state.proofs.Boards.{entries-none, undo-none, settle-all, undo-in-some}
 use Rattle.state.proofs.Raising.{Below, settle-tally, refused-tally, undone-tally}

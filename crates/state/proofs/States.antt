@@ -16,7 +16,8 @@ use Rattle.model.specs.declared.Call.{Call}
 use Rattle.model.proofs.Tests.{and-left, and-right}
 use Rattle.state.specs.declared.Engine.{Engine}
 use Rattle.state.specs.declared.Reply.{Reply}
-use Rattle.state.specs.View.{most-contexts, most-relations, sound-in, sound, net-in, net-of, counts-in, counts-of, entries, opened-of, board-in, tally-of, state, Shows, Replies}
+use Rattle.slots.specs.View.{most-contexts, counts-in, entries}
+use Rattle.state.specs.View.{most-relations, sound-in, sound, net-in, net-of, counts-of, opened-of, board-in, tally-of, state, Shows, Replies}
 
 module _ {ℓ} {A : Type ℓ} where
   pub cond-same : (b : Bool) (x : A) → cond b x x ≡ x

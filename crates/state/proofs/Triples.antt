@@ -11,8 +11,8 @@ use lib.ListN.{length, getD, take, List·getD-append}
 use lib.Seq.{getD-at, length-take-le}
 use Rattle.model.specs.Relations.{Relation}
 use Rattle.model.specs.Image.{edition-1, read, relation-fields, relation-from}
-use Rattle.net.specs.Reading.{relation-at, first-relations, relations-in}
-use Rattle.net.proofs.Reading.{length-first, first-more}
+use Rattle.relations.specs.Reading.{relation-at, first-relations, relations-in}
+use Rattle.relations.proofs.Reading.{length-first, first-more}
 
 -- the first r relations are read from the first 3r bytes
 first-take : (r : ℕ) (bs : List ℕ) → first-relations r (take (3 * r) bs) ≡ first-relations r bs

@@ -3,60 +3,30 @@
 -- behind the n-th, the relation bytes behind the r-th relation, and what it is that makes a value unsound. No reading below depends on
 -- these, so what a call leaves there cannot be seen.
 -- Assumes nothing.
-use Prim.Native.Nat.{ℕ, zero, suc, _+_, _*_, _/_, _%_}
+use Prim.Native.Nat.{ℕ}
 use mathlib.Core.Path.{_≡_}
 use mathlib.Core.Bool.{Bool, _&&_, not, cond}
-use mathlib.Core.List.{List, [], _∷_}
-use lib.Dec.{eqb, ltb, leb}
-use lib.ListN.{getD, take}
+use mathlib.Core.List.{List, []}
+use lib.Dec.{leb}
+use lib.ListN.{take}
 use Rattle.model.specs.Sets.{any}
-use Rattle.model.specs.Relations
 use Rattle.model.specs.Relations.{Net, empty-net, misfit}
 use Rattle.model.specs.Image.{edition-1, read-relations}
 use Rattle.model.specs.Machine
 use Rattle.model.specs.Machine.{Counts, Request, Entry, Board, State, zeros, open-limit, respond}
 use Rattle.model.specs.declared.Call.{Call}
+use Rattle.slots.specs.View.{most-contexts, counts-in, entries}
 use Rattle.state.specs.declared.Engine.{Engine}
-use Rattle.state.specs.declared.Reading.{Reading}
-use Rattle.state.specs.declared.Relation.{Relation}
 use Rattle.state.specs.declared.Reply.{Reply}
 use Rattle.state.specs.declared.Tally.{Tally}
 
--- the largest n and r, which the arrays have room for
-abbrev pub most-contexts : ℕ
-most-contexts = edition-1 .max-contexts
-
+-- the largest r, which the arrays have room for
 abbrev pub most-relations : ℕ
 most-relations = edition-1 .max-relations
 
 -- the net: the first n capacities, and the first r relations of three bytes each
 unfoldable pub net-in : (n : ℕ) (capacities : List ℕ) (r : ℕ) (relations : List ℕ) → Net
 net-in n capacities r relations = record { caps = take n capacities; rels = read-relations edition-1 r relations }
-
--- the count of context c is entry c
-abbrev pub counts-in : List ℕ → Counts
-counts-in counts c = getD counts c 0
-
--- the counts from before an open request: the 48 entries of its slot
-abbrev pub marking-in : List ℕ → ℕ → Counts
-marking-in markings s c = cond (ltb c most-contexts) (getD markings (most-contexts * s + c) 0) 0
-
--- a request as a number: twice its context's number, plus one for a deactivation
-abbrev pub request-in : ℕ → Request
-request-in x = record { on = eqb (x % 2) 0; context = x / 2 }
-
--- The open list is a ring of 32 slots: the slot of the open request that k older ones come before.
-abbrev pub slot : (first k : ℕ) → ℕ
-slot first k = (first + k) % open-limit
-
--- what a slot holds of an open request
-abbrev pub entry-in : (requests markings : List ℕ) → ℕ → Entry
-entry-in requests markings s = record { request = request-in (getD requests s 0); before = marking-in markings s }
-
--- the open list of k requests, newest first as in the model
-unfoldable pub entries : (requests markings : List ℕ) (first k : ℕ) → List Entry
-entries requests markings first zero = []
-entries requests markings first (suc k) = entry-in requests markings (slot first k) ∷ entries requests markings first k
 
 -- the board of a net whose counts and open list these arrays hold; the settled list stands in the definition only
 unfoldable pub board-in : Net → (counts requests markings : List ℕ) (first opened : ℕ) → List Request → Board
@@ -103,16 +73,6 @@ state e settled =
       board = record { net = net-of e; counts = counts-of e; settled = settled; opened = opened-of e };
       tally = tally-of e;
     }
-
--- a count's reading, and a relation as its bytes; where there is no such relation each byte is 0
-abbrev pub reading-in : Reading → Machine.Reading
-reading-in x = record { verdict = x .verdict; value = x .value }
-
-abbrev pub relation-in : Relation → Relations.Relation
-relation-in x = record { kind = x .kind; a = x .a; b = x .b }
-
-abbrev pub no-relation : Relations.Relation
-no-relation = record { kind = 0; a = 0; b = 0 }
 
 -- the engine holds this state, whose settled list the engine itself does not have
 abbrev pub Shows : Engine → State → Type 0

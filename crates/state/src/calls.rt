@@ -3,13 +3,12 @@ ghost use Rattle.model.specs.declared.Call.the-variants.{Undo, Settle};
 ghost use Rattle.state.specs.View.{Replies};
 use crate::Engine;
 use crate::Reply;
-use crate::Ring;
-use crate::slots;
 use crate::tallies;
 use crate::value;
 use model::Answer;
 use model::NOTHING_OPEN;
 use model::Verdict;
+use slots::Ring;
 
 // Takes back the newest open request. A value that is not sound has nothing open.
 pub fn undo(mut e: Engine) -> Reply

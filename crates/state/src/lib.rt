@@ -1,30 +1,17 @@
 // The engine's value: a net with its counts, its open list and its totals. How it is read as the machine's state is in specs/View.antt.
 use model::Answer;
-use model::Verdict;
 
 mod calls;
-mod readings;
-mod slots;
 mod tallies;
 mod value;
 
 pub use calls::settle;
 pub use calls::undo;
-pub use readings::capacity;
-pub use readings::contexts;
-pub use readings::count;
-pub use readings::count_in;
-pub use readings::relation_at;
-pub use readings::relation_count;
-pub use readings::totals;
-pub use slots::push;
-pub use slots::request_number;
-pub use slots::restore;
-pub use slots::take_back;
 pub use tallies::one_more;
 pub use tallies::tallied;
 pub use value::empty;
 pub use value::fresh;
+pub use value::shown;
 pub use value::sound;
 
 // Primary data only, so that every value has a meaning.
@@ -47,12 +34,6 @@ pub struct Engine {
     pub undone: u32,
 }
 
-// Where the open list stands in its ring: the oldest request's slot, and how many are open.
-pub struct Ring {
-    pub first: usize,
-    pub opened: usize,
-}
-
 // The totals beside the arrays.
 pub struct Tally {
     pub granted: u32,
@@ -64,17 +45,4 @@ pub struct Tally {
 pub struct Reply {
     pub answer: Answer,
     pub engine: Engine,
-}
-
-// A count's reading.
-pub struct Reading {
-    pub verdict: Verdict,
-    pub value: u8,
-}
-
-// A relation as its three bytes.
-pub struct Relation {
-    pub kind: u8,
-    pub a: u8,
-    pub b: u8,
 }

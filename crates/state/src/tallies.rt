@@ -4,7 +4,7 @@ ghost use Rattle.model.specs.Sets.{bit};
 ghost use Rattle.model.specs.Refusals.{is-granted};
 ghost use Rattle.model.specs.Machine.{saturating-add, tally-after};
 ghost use Rattle.state.specs.View.{tally-in};
-ghost use Rattle.state.specs.Parts.{raise};
+ghost use Rattle.state.specs.Totals.{raise};
 use crate::Tally;
 use model::Call;
 use model::Verdict;

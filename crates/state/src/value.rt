@@ -17,7 +17,7 @@ fn misfits_among(relations: &[u8], r: usize, n: usize) -> bool
     ensures { λ found. ⌜ found ≡ any (misfit n) (read-relations edition-1 r (now (relations .entry))) ⌝ }
 {
     let m = 3 * r;
-    net::misfits(&relations[..m], n)
+    relations::misfits(&relations[..m], n)
 }
 
 // Whether an engine with these fields is one that loading and calls make. The caller lends the whole array.

@@ -16,67 +16,18 @@ use Rattle.model.specs.Sets.{Set, singleton, empty-set, bit, number, all-below}
 use Rattle.model.specs.Refusals.{refuse, first-refusal, step-limit-met, tokens-left}
 use Rattle.model.specs.Relations.{Net, size}
 use Rattle.model.specs.Firing.{Marking, Outcome, holds-token, is-empty, clear, fire-until-quiet, step-limit}
-use Rattle.model.specs.Machine.{Request, Counts, Effect, zeros, initial-marking, step-of, concluded, effect, without-firings}
-use Rattle.model.specs.Claims.{at-rest}
+use Rattle.model.specs.Machine.{Request, Counts, Effect, initial-marking, step-of, concluded, effect, without-firings}
 use Rattle.model.specs.declared.Verdict.{Verdict}
 use Rattle.model.specs.declared.Verdict.the-variants.{Granted, Refused}
 use Rattle.model.proofs.Masks.{number-cong}
-use Rattle.model.proofs.Tests.{and-right, and-both, and-false, below-at, below-make}
+use Rattle.model.proofs.Tests.{and-false, below-at, below-make}
 use Rattle.model.proofs.Effects.{Judged, outside, unfinished, unclear, completed, judged}
 use Rattle.net.specs.Tables.{Columns}
-use Rattle.steps.specs.Markings.{counts-of, marking, below, Shows, AtMost}
+use Rattle.walk.specs.Markings.{counts-of, marking, below, Shows, AtMost}
 use Rattle.steps.specs.Steps.{Describes, Starts, Outcomes, Ends, Judges}
-use Rattle.steps.specs.declared.Marked.{Marked}
+use Rattle.walk.specs.declared.Marked.{Marked}
 use Rattle.steps.specs.declared.step.Stepped.{Stepped}
-use Rattle.steps.proofs.Renewal.{and-none}
-use Rattle.steps.proofs.Readiness.{all-and}
-
-bit-held : (b : Bool) → ltb 0 (bit b) ≡ b
-bit-held true = refl
-bit-held false = refl
-
--- the words of a request's token, and of a kind of places where there is none
-module _ (n c : ℕ) {r : ℕ} {b : Bool} where
-  token-shown : c < n → b ≡ true → r ≡ number 64 (singleton c) → r ≡ number 64 (upto n (holds-token (λ x. bit (b && singleton c x))))
-  token-shown h t e =
-      e
-      ∙ number-cong 64 (singleton c) (upto n (holds-token (λ x. bit (b && singleton c x))))
-      (λ j l. sym (ap (λ (x : Bool). ltb j n && ltb 0 (bit (x && eqb j c))) t ∙ ap (λ (x : Bool). ltb j n && x) (bit-held (eqb j c)) ∙ inside j))
-    where
-      inside : (j : ℕ) → (ltb j n && eqb j c) ≡ eqb j c
-      inside j =
-          same-bool (ltb j n && eqb j c) (eqb j c) (and-right (ltb j n) (eqb j c))
-          (λ q. and-both (let k = eqb-true j c q in lt-ltb j n (omega arith)) q)
-
-  none-shown : b ≡ false → r ≡ number 64 (upto n (holds-token zeros)) → r ≡ number 64 (upto n (holds-token (λ x. bit (b && singleton c x))))
-  none-shown t e =
-      e
-      ∙ number-cong 64 (upto n (holds-token zeros)) (upto n (holds-token (λ x. bit (b && singleton c x))))
-      (λ j l. sym (ap (λ (x : Bool). ltb j n && ltb 0 (bit (x && eqb j c))) t))
-
--- the words of counts at rest, with the token
-module _ (n c : ℕ) (spare : Set) (m : Counts) (s : Marked) (h : c < n) (sh : Shows n spare (at-rest m) s) (token : ℕ) (e : token ≡ number 64 (singleton c)) {on : Bool} where
-  pub asks-on : on ≡ true
-      → Shows n spare (initial-marking m (record { on = on; context = c })) (record { context = s .context; pr = token; prNot = s .prNot; spare = s .spare })
-  unfolding initial-marking
-  asks-on t =
-      record {
-        context = sh .context;
-        pr = token-shown n c {b = on} h t e;
-        prNot = none-shown n c {b = not on} (ap not t) (sh .prNot);
-        spare = sh .spare;
-      }
-
-  pub asks-off : on ≡ false
-      → Shows n spare (initial-marking m (record { on = on; context = c })) (record { context = s .context; pr = s .pr; prNot = token; spare = s .spare })
-  unfolding initial-marking
-  asks-off t =
-      record {
-        context = sh .context;
-        pr = none-shown n c {b = on} t (sh .pr);
-        prNot = token-shown n c {b = not on} h (ap not t) e;
-        spare = sh .spare;
-      }
+use Rattle.walk.proofs.Readiness.{and-none, all-and}
 
 -- one token among 96 empty places
 module _ (p : ℕ) (h : p < 96) where

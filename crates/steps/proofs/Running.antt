@@ -21,15 +21,16 @@ use Rattle.model.proofs.Tests.{each-getD}
 use Rattle.model.proofs.Bounds.{Below, Bounded, bounded, unused}
 use Rattle.model.proofs.Loops
 use Rattle.model.proofs.Loops.{start, more, loop-quiet, loop-stopped}
-use Rattle.net.specs.Tables.{Columns, Holds, row, blank}
-use Rattle.net.specs.declared.tables.Arcs.{Arcs}
-use Rattle.steps.specs.Markings.{marking, below, Shows, Stands, AtMost}
-use Rattle.steps.specs.Walks.{passes, ready-row, Passing, Fires, Chooses}
-use Rattle.steps.specs.Moves.{reading, Firable, Fired}
+use Rattle.net.specs.Tables.{Columns, row, blank}
+use Rattle.transitions.specs.Arcs.{Holds}
+use Rattle.transitions.specs.declared.Arcs.{Arcs}
+use Rattle.walk.specs.Markings.{marking, below, Shows, Stands, AtMost}
+use Rattle.walk.specs.Walks.{passes, ready-row, Passing, Fires, Chooses}
+use Rattle.firing.specs.Moves.{reading, Firable, Fired}
 use Rattle.steps.specs.Steps.{Describes, Starts, Outcomes, Ends}
-use Rattle.steps.specs.declared.Marked.{Marked}
-use Rattle.steps.specs.declared.Found.{Found}
-use Rattle.steps.specs.declared.Found.the-variants.{At, Nothing}
+use Rattle.walk.specs.declared.Marked.{Marked}
+use Rattle.walk.specs.declared.Found.{Found}
+use Rattle.walk.specs.declared.Found.the-variants.{At, Nothing}
 
 -- a word of a transition's set holds it, among n contexts and beyond
 set-is : (n : ℕ) → n ≤ 48 → (f : Set) → Below n f → {a : ℕ} → a ≡ number 64 f → (j : ℕ) → upto n (members a) j ≡ f j

@@ -11,8 +11,8 @@ use Rattle.model.specs.Machine.{Effect}
 use Rattle.model.specs.Claims.{Fits}
 use Rattle.model.specs.declared.Answer.{Answer}
 use Rattle.net.specs.Tables.{Columns, Table}
-use Rattle.steps.specs.Markings.{counts-of, marking, Stands, AtMost}
-use Rattle.steps.specs.declared.Marked.{Marked}
+use Rattle.walk.specs.Markings.{counts-of, marking, Stands, AtMost}
+use Rattle.walk.specs.declared.Marked.{Marked}
 use Rattle.steps.specs.declared.step.Stepped.{Stepped}
 
 -- the arrays hold a net whose relations fit it: its n capacities, and its t transitions

@@ -9,11 +9,10 @@ ghost use Rattle.model.specs.Relations.{Net};
 ghost use Rattle.model.specs.Machine.{effect, initial-marking};
 ghost use Rattle.model.specs.declared.Verdict.the-variants.{Refused};
 ghost use Rattle.net.specs.Tables.{columns};
-ghost use Rattle.steps.specs.Markings.{counts-of, marking};
+ghost use Rattle.walk.specs.Markings.{counts-of, marking};
 ghost use Rattle.steps.specs.Steps.{Describes, Judges};
 use crate::step;
 use crate::step::Stepped;
-use crate::words;
 use model::Answer;
 use model::NO_SUCH_CONTEXT;
 use model::STEP_LIMIT_MET;
@@ -93,7 +92,7 @@ pub fn judge<'a>(
     }
     let before = copied(counts);
     let mut temps = token(on, c);
-    let marks = words::asking(words::at_rest(n, capacities, &before), on, c);
+    let marks = firing::asking(firing::at_rest(n, capacities, &before), on, c);
     let end = step::run_from(
         priority,
         takesContext,

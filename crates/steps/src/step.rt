@@ -3,10 +3,8 @@ ghost use mathlib.Core.Path.{_≡_};
 ghost use Prim.Native.Nat.{_<_};
 ghost use Rattle.net.specs.Tables.{columns};
 ghost use Rattle.steps.specs.Steps.{Starts, Ends};
-use crate::Found;
-use crate::Marked;
-use crate::firing;
-use crate::walk;
+use walk::Found;
+use walk::Marked;
 
 // So many firings a step makes at most.
 const STEP_LIMIT: usize = 4096;

@@ -1,7 +1,8 @@
 use Prim.Native.Nat.{_*_}
 use native.Mathlib.Omega.{arith}
-use mathlib.Core.Path.{sym}
+use mathlib.Core.Path.{sym, subst}
 use lib.Seq.{length-take-le}
+use Rattle.state.specs.View.{Replies}
 use Rattle.state.proofs.States.{sound-limits}
 use Rattle.engine.proofs.Describing.{Whole, composable, sound-running, replies-sound}
 use borrow.Author.Needs.{needs}
@@ -47,15 +48,19 @@ serve-requires c κs =
     let start = made .before .before .before .before in
     record { net = _; running = sound-running (start .args .e) (start .pre) (whole start) _ _ (made .composed .ensures) }
 
+moved-requires : tie.Need-moved-requires
+moved-requires c κs = search needs
+
 returns : tie.Need-returns
 returns c =
-    let served = c .before .before .before in
+    let served = c .before in
     let asked = served .before in
     let made = asked .before .before .before .before .before .before .before .before .before .before .before .before .before .before .before .before .before .before .before in
     let start = made .before .before .before .before in
     let e = start .args .e in
-    replies-sound _ e (start .pre) _ (asked .call-of .ensures) (served .serve .result) _ _ _
-    (served .serve .ensures _ (sound-running e (start .pre) (whole start) _ _ (made .composed .ensures)))
+    subst (Replies _ e) (sym (c .moved .ensures))
+    (replies-sound _ e (start .pre) _ (asked .call-of .ensures) (served .serve .result) _ _ _
+    (served .serve .ensures _ (sound-running e (start .pre) (whole start) _ _ (made .composed .ensures))))
 
 pub request-spec : {M : Type 1} → statement M
 request-spec =
@@ -67,4 +72,5 @@ request-spec =
     composed-requires
     call-of-requires
     serve-requires
+    moved-requires
     returns)

@@ -7,10 +7,10 @@ pair-requires : tie.Need-pair-requires
 pair-requires c κs = search needs
 
 returns : tie.Need-returns
-returns c = call-0 (c .before .before .args .k) (c .before .before .args .low) (c .before .before .args .high) _ (c .match .keys1) (c .before .pair .ensures)
+returns c = call-0 (c .before .before .args .k) (c .before .before .args .low) (c .before .before .args .high) _ (c .match .keys1) (c .before .pair .ensures .0)
 
 returns-2 : tie.Need-returns-2
-returns-2 c = call-1 (c .before .before .args .k) (c .before .before .args .low) (c .before .before .args .high) _ (c .match .keys2) (c .before .pair .ensures)
+returns-2 c = call-1 (c .before .before .args .k) (c .before .before .args .low) (c .before .before .args .high) _ (c .match .keys2) (c .before .pair .ensures .0)
 
 returns-3 : tie.Need-returns-3
 returns-3 c = call-2 (c .before .before .args .k) (c .before .before .args .low) (c .before .before .args .high) (c .match .keys3)

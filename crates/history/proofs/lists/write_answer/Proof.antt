@@ -4,14 +4,14 @@ use denote.Ref.{now}
 use mathlib.Core.Path.{ap, _∙_}
 use mathlib.Core.List.{[], _∷_}
 use lib.ListN.{length-set}
-use Rattle.image.specs.Bytes.{put}
+use Rattle.records.specs.Bytes.{put}
 use Rattle.history.proofs.Calling.{put-three}
 use borrow.Author.Needs.{needs}
 use Rattle.history.proofs.lists.write_answer.Statement.{statement}
 use Rattle.history.proofs.lists.write_answer.Tie as tie
 
-number-of-requires : tie.Need-number-of-requires
-number-of-requires c κs = search needs
+number-requires : tie.Need-number-requires
+number-requires c κs = search needs
 
 slice-write-out : tie.Need-slice-write-out
 slice-write-out c = search needs
@@ -41,14 +41,14 @@ returns : tie.Need-returns
 returns c =
     let a = c .before .before .args in
     let f = a .answer .firings in
-    put-three (now (a .out)) (a .i) (c .number-of .result) (f % 256) (f / 256 % 256) (c .before .before .pre)
-    ∙ ap (λ (x : ℕ). put (now (a .out)) (a .i) (x ∷ f % 256 ∷ f / 256 % 256 ∷ [])) (c .number-of .ensures)
+    put-three (now (a .out)) (a .i) (c .number .result) (f % 256) (f / 256 % 256) (c .before .before .pre)
+    ∙ ap (λ (x : ℕ). put (now (a .out)) (a .i) (x ∷ f % 256 ∷ f / 256 % 256 ∷ [])) (c .number .ensures)
 
 pub write-answer-spec : {M : Type 1} → statement M
 write-answer-spec =
     tie.close
     (tie.spec
-    number-of-requires
+    number-requires
     slice-write-out
     cast-out
     add-out

@@ -5,8 +5,8 @@ use mathlib.Core.Path.{_≡_, refl, sym, ap, _∙_}
 use mathlib.Core.List.{List, _++_}
 use lib.ListN.{length, take}
 use lib.Seq.{length-take-le}
-use Rattle.image.specs.Bytes.{put}
-use Rattle.image.proofs.Puts.{put-next}
+use Rattle.records.specs.Bytes.{put}
+use Rattle.records.proofs.Puts.{put-next}
 use borrow.Author.Needs.{needs}
 use Rattle.history.proofs.lists.write_state.Statement.{statement}
 use Rattle.history.proofs.lists.write_state.Tie as tie

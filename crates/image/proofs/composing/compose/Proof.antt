@@ -3,7 +3,7 @@ use native.Mathlib.Omega.{arith}
 use mathlib.Core.Path.{sym, ap, _∙_}
 use denote.Ref.{now}
 use Rattle.model.specs.Refusals.{is-granted}
-use Rattle.net.proofs.Linking.{linked-none}
+use Rattle.relations.proofs.Linking.{linked-none}
 use Rattle.image.proofs.Given.{Given, given}
 use Rattle.image.proofs.Answering.{list-refused, output-refused, written}
 use borrow.Author.Needs.{needs}

@@ -7,10 +7,11 @@ use lib.ListN.{length}
 use Rattle.model.specs.Image.{edition-1, record-bytes, trailer, trailer-bytes}
 use Rattle.model.specs.Transitions.{transitions-of}
 use Rattle.model.proofs.Sizes.{length-concat-map, length-record, length-trailer}
-use Rattle.net.specs.Reading.{relations-in}
-use Rattle.image.specs.Bytes.{put}
-use Rattle.image.proofs.Puts.{put-four}
-use Rattle.image.proofs.Given.{few-transitions, bytes-each, given-records, given-trailer, image-parts}
+use Rattle.relations.specs.Reading.{relations-in}
+use Rattle.records.specs.Bytes.{put}
+use Rattle.records.proofs.Puts.{put-four}
+use Rattle.image.proofs.Given.{few-transitions, given-records, given-trailer, image-parts}
+use Rattle.records.proofs.Words.{bytes-each}
 use borrow.Author.Needs.{needs}
 use Rattle.image.proofs.composing.write_image.Statement.{statement}
 use Rattle.image.proofs.composing.write_image.Tie as tie

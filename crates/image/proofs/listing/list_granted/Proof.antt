@@ -6,11 +6,11 @@ use mathlib.Core.List.{List, _∷_}
 use denote.Ref.{now}
 use lib.ListN.{length}
 use Rattle.model.specs.Image.{edition-1, load}
-use Rattle.image.specs.Bytes.{put}
-use Rattle.image.specs.Loading.{trailer-as}
+use Rattle.records.specs.Bytes.{put}
+use Rattle.layout.specs.Layout.{trailer-as}
 use Rattle.image.specs.Listing.{listing}
-use Rattle.image.proofs.Given.{bytes-each}
-use Rattle.image.proofs.Loads.{granting, laid-by}
+use Rattle.records.proofs.Words.{bytes-each}
+use Rattle.layout.proofs.Loads.{granting, laid-by}
 use Rattle.image.proofs.Lists.{listing-found, short-listed, whole-listed}
 use borrow.Author.Needs.{needs}
 use Rattle.image.proofs.listing.list_granted.Statement.{statement}

@@ -2,7 +2,7 @@ use native.Mathlib.Omega.{arith}
 use mathlib.Core.Path.{sym}
 use denote.Ref.{now}
 use lib.Seq.{length-take-le}
-use Rattle.image.specs.Loading.{trailer-as}
+use Rattle.layout.specs.Layout.{trailer-as}
 use Rattle.image.proofs.Lists.{list-found}
 use borrow.Author.Needs.{needs}
 use Rattle.image.proofs.listing.list_part.Statement.{statement}

@@ -3,7 +3,7 @@ use native.Mathlib.Omega.{arith}
 use mathlib.Core.Path.{refl}
 use mathlib.Core.List.{[], _∷_}
 use denote.Ref.{now}
-use Rattle.image.proofs.Puts.{put-next}
+use Rattle.records.proofs.Puts.{put-next}
 use borrow.Author.Needs.{needs}
 use Rattle.image.proofs.listing.write_list.Statement.{statement}
 use Rattle.image.proofs.listing.write_list.Tie as tie

@@ -1,9 +1,9 @@
 -- The checks run in order: the length, what the trailer says, and then the parts.
 use mathlib.Core.Path.{sym, _∙_}
 use denote.Ref.{now}
-use Rattle.image.specs.Loading.{trailer-as}
-use Rattle.image.proofs.Parts.{laid-out}
-use Rattle.image.proofs.Loads.{short-refused, trailer-refused, trailer-passed}
+use Rattle.layout.specs.Layout.{trailer-as}
+use Rattle.layout.proofs.Parts.{laid-out}
+use Rattle.layout.proofs.Loads.{short-refused, trailer-refused, trailer-passed}
 use borrow.Author.Needs.{needs}
 use Rattle.image.proofs.loading.check.Statement.{statement}
 use Rattle.image.proofs.loading.check.Tie as tie

@@ -9,9 +9,9 @@ use lib.ListN.{length, take}
 use Rattle.model.specs.Relations.{empty-net}
 use Rattle.model.specs.Machine
 use Rattle.state.specs.View.{sound-in, net-in}
-use Rattle.image.specs.Loading.{LaidOut, trailer-as}
-use Rattle.image.proofs.Parts.{length-capacities, length-relations}
-use Rattle.image.proofs.Loads.{granting, laid-by}
+use Rattle.layout.specs.Layout.{LaidOut, trailer-as}
+use Rattle.layout.proofs.Parts.{length-capacities, length-relations}
+use Rattle.layout.proofs.Loads.{granting, laid-by}
 use Rattle.image.proofs.Engines.{engine-net}
 use borrow.Author.Needs.{needs}
 use Rattle.image.proofs.loading.engine_of.Statement.{statement}

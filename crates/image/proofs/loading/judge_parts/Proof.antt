@@ -7,9 +7,9 @@ use denote.Ref.{now}
 use lib.ListN.{length}
 use Rattle.model.specs.Refusals
 use Rattle.model.specs.Refusals.{refuse, first-refusal, is-granted}
-use Rattle.net.proofs.Linking.{linked-none}
-use Rattle.image.specs.Loading.{trailer-as, part-checks}
-use Rattle.image.proofs.Parts.{length-capacities, length-records, list-refused, composable, by-records}
+use Rattle.relations.proofs.Linking.{linked-none}
+use Rattle.layout.specs.Layout.{trailer-as, part-checks}
+use Rattle.layout.proofs.Parts.{length-capacities, length-records, list-refused, composable, by-records}
 use borrow.Author.Needs.{needs}
 use Rattle.image.proofs.loading.judge_parts.Statement.{statement}
 use Rattle.image.proofs.loading.judge_parts.Tie as tie

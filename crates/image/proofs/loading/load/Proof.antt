@@ -2,7 +2,7 @@
 use mathlib.Core.Path.{sym, ap, _∙_}
 use denote.Ref.{now}
 use Rattle.model.specs.Machine.{fresh}
-use Rattle.image.proofs.Loads.{no-net}
+use Rattle.layout.proofs.Loads.{no-net}
 use borrow.Author.Needs.{needs}
 use Rattle.image.proofs.loading.load.Statement.{statement}
 use Rattle.image.proofs.loading.load.Tie as tie

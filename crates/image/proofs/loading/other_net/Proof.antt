@@ -6,7 +6,7 @@ use borrow.Author.Tests.{eq-eqb, ne-eqb}
 use denote.Ref.{now}
 use lib.ListN.{length}
 use Rattle.model.specs.Transitions.{transitions-of}
-use Rattle.net.specs.Reading.{relations-in}
+use Rattle.relations.specs.Reading.{relations-in}
 use Rattle.image.proofs.loading.other_net.Statement.{statement}
 use Rattle.image.proofs.loading.other_net.Tie as tie
 

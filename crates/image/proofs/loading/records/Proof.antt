@@ -3,7 +3,7 @@ use mathlib.Core.Path.{_≡_, sym, ap, _∙_}
 use denote.Ref.{now}
 use Rattle.model.specs.Image.{edition-1, records-of, load}
 use Rattle.model.specs.declared.Verdict.the-variants.{Granted}
-use Rattle.image.proofs.Loads.{granting, laid-by, nothing}
+use Rattle.layout.proofs.Loads.{granting, laid-by, nothing}
 use borrow.Author.Needs.{needs}
 use Rattle.image.proofs.loading.records.Statement.{statement}
 use Rattle.image.proofs.loading.records.Tie as tie

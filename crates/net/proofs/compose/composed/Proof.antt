@@ -1,6 +1,6 @@
 -- The words start empty, so behind link_all they hold what all relations link.
 use mathlib.Core.Path.{refl}
-use Rattle.net.proofs.Linking.{linked-none}
+use Rattle.relations.proofs.Linking.{linked-none}
 use borrow.Author.Needs.{needs}
 use Rattle.net.proofs.compose.composed.Statement.{statement}
 use Rattle.net.proofs.compose.composed.Tie as tie

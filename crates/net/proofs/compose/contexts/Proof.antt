@@ -6,10 +6,10 @@ use native.Mathlib.Omega.{arith}
 use Rattle.model.specs.Sets.{concat-map, range}
 use Rattle.model.specs.Relations.{Relation}
 use Rattle.model.specs.Transitions.{context-transitions}
-use Rattle.net.specs.Links.{Linked}
+use Rattle.relations.specs.Links.{Linked}
 use Rattle.net.specs.Tables.{columns, Grown}
 use Rattle.net.proofs.Growing.{grown-none, grown-more}
-use Rattle.net.proofs.Counting.{contexts-more}
+use Rattle.transitions.proofs.Counting.{contexts-more}
 use Rattle.net.proofs.compose.contexts.Statement.{statement}
 use Rattle.net.proofs.compose.contexts.Tie as tie
 

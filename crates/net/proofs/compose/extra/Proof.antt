@@ -3,7 +3,7 @@ use native.Mathlib.Omega.{arith}
 use denote.Ref.{now}
 use Rattle.net.specs.Tables.{Columns, columns}
 use Rattle.net.proofs.Growing.{grown-none, grown-one}
-use Rattle.net.proofs.Counting.{extra-none}
+use Rattle.transitions.proofs.Counting.{extra-none}
 use borrow.Author.Needs.{needs}
 use Rattle.net.proofs.compose.extra.Statement.{statement}
 use Rattle.net.proofs.compose.extra.Tie as tie

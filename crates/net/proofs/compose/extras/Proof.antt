@@ -9,11 +9,11 @@ use Rattle.model.specs.Sets.{concat-map}
 use Rattle.model.specs.Relations.{Relation}
 use Rattle.model.specs.Transitions.{extra, extra-transitions}
 use Rattle.model.proofs.Ready.{Fitting}
-use Rattle.net.specs.Reading.{relation-at, first-relations, relations-in}
+use Rattle.relations.specs.Reading.{relation-at, first-relations, relations-in}
 use Rattle.net.specs.Tables.{columns, Grown}
-use Rattle.net.proofs.Reading.{same-parts, fits-at}
+use Rattle.relations.proofs.Reading.{same-parts, fits-at}
 use Rattle.net.proofs.Growing.{grown-none, grown-more}
-use Rattle.net.proofs.Counting.{extras-more, extras-few}
+use Rattle.transitions.proofs.Counting.{extras-more, extras-few}
 use Rattle.net.proofs.compose.extras.Statement.{statement}
 use Rattle.net.proofs.compose.extras.Tie as tie
 

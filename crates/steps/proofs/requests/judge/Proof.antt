@@ -9,7 +9,7 @@ use Rattle.net.specs.Tables.{Columns, columns}
 use Rattle.model.specs.Machine.{Request, effect}
 use Rattle.model.specs.Claims.{at-rest}
 use Rattle.model.specs.declared.Answer.{Answer}
-use Rattle.steps.specs.Markings.{counts-of, below, Shows}
+use Rattle.walk.specs.Markings.{counts-of, below, Shows}
 use Rattle.steps.specs.Steps.{Starts, Judges}
 use Rattle.steps.proofs.Judging.{starts, judges-outside, judges-granted, judges-refused}
 use Rattle.steps.proofs.requests.judge.Statement.{statement}

@@ -2,7 +2,7 @@ use mathlib.Core.Bool.{Bool, _&&_}
 use mathlib.Core.Path.{sym, ap, ap₂}
 use borrow.Author.Tests.{not-true, not-false}
 use lib.Dec.{eqb}
-use Rattle.steps.specs.declared.Marked.{Marked}
+use Rattle.walk.specs.declared.Marked.{Marked}
 use Rattle.steps.proofs.Judging.{verdict-by}
 use Rattle.steps.proofs.requests.verdict_on.Statement.{statement}
 use Rattle.steps.proofs.requests.verdict_on.Tie as tie

@@ -4,9 +4,9 @@ use mathlib.Core.Path.{sym, subst}
 use native.Mathlib.Omega.{arith}
 use borrow.Author.Needs.{needs}
 use Rattle.net.specs.Tables.{Columns, columns}
-use Rattle.steps.specs.Walks.{Chooses}
+use Rattle.walk.specs.Walks.{Chooses}
 use Rattle.steps.specs.Steps.{Ends}
-use Rattle.steps.specs.declared.Found.the-variants.{At}
+use Rattle.walk.specs.declared.Found.the-variants.{At}
 use Rattle.steps.specs.declared.step.Stepped.{Stepped}
 use Rattle.steps.proofs.Running.{Going, going-start, going-on, in-arrays, can-fire, ends-quiet, ends-stopped}
 use Rattle.steps.proofs.step.run_from.Statement.{statement}

@@ -1,0 +1,4 @@
+pub mod Renewal
+pub mod Tokens
+pub mod Moving
+pub mod Firings

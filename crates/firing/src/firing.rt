@@ -1,0 +1,110 @@
+// One firing: the tokens move, and the words with them.
+ghost use mathlib.Core.Path.{_≡_};
+ghost use mathlib.Core.Bool.{true, false, cond};
+ghost use Prim.Native.Nat.{_+_, _-_, _<_};
+ghost use Rattle.sets.specs.Sets.{members};
+ghost use Rattle.model.specs.Sets.{number};
+ghost use Rattle.firing.specs.Moves.{changing, CountsMovable, CountsMoved, TempsMovable, TempsMoved, Firable, Fired};
+use crate::words;
+use transitions::Arcs;
+use walk::Marked;
+
+// A count with a token less, where one is taken, or with one more.
+fn shift_count(count: u8, taken: bool) -> u8
+    requires { ⌜ (taken ≡ true → 0 < count) × (taken ≡ false → count < 255) ⌝ }
+    ensures { λ r. ⌜ r ≡ cond taken (count - 1) (count + 1) ⌝ }
+{
+    if taken { count - 1 } else { count + 1 }
+}
+
+// The same on a temporary place.
+fn shift_tokens(tokens: u16, taken: bool) -> u16
+    requires { ⌜ (taken ≡ true → 0 < tokens) × (taken ≡ false → tokens < 65535) ⌝ }
+    ensures { λ r. ⌜ r ≡ cond taken (tokens - 1) (tokens + 1) ⌝ }
+{
+    if taken { tokens - 1 } else { tokens + 1 }
+}
+
+// The contexts that are in one of the two sets alone: a place that is taken and given keeps its tokens.
+fn changes(takes: u64, gives: u64) -> u64
+    ensures { λ r. ⌜ r ≡ number 64 (changing (members takes) (members gives)) ⌝ }
+{
+    sets::union(
+        sets::difference(takes, gives),
+        sets::difference(gives, takes),
+    )
+}
+
+// Moves the tokens of the contexts, and keeps the words up to date at those that change. The caller's transition is ready, so
+// that each count that falls was above 0, and each that rises was below its capacity.
+fn move_counts(
+    counts: &mut [u8; 48],
+    capacities: &[u8; 48],
+    n: usize,
+    takes: u64,
+    gives: u64,
+    start: Marked,
+) -> Marked
+    requires { ⌜ CountsMovable n takes gives (now capacities) (now counts) start ⌝ }
+    ensures { λ r. ⌜ CountsMoved n takes gives (now (capacities .entry)) (now (counts .entry)) (now (counts .exit)) r ⌝ }
+{
+    let moving = changes(takes, gives);
+    let mut marks = start;
+    let mut c = sets::member_from(moving, 0);
+    while c < n {
+        let capacity = words::byte(capacities, c);
+        let count = shift_count(counts[c], sets::member(takes, c));
+        counts[c] = count;
+        marks = words::recount(marks, c, count, capacity);
+        c = sets::member_from(moving, c + 1);
+    }
+    marks
+}
+
+// The same on the temporary places of one kind, which stand from base on, with their word.
+fn move_temps(
+    temps: &mut [u16; 96],
+    base: usize,
+    n: usize,
+    takes: u64,
+    gives: u64,
+    start: u64,
+) -> u64
+    requires { ⌜ TempsMovable n base takes gives (now temps) start ⌝ }
+    ensures { λ r. ⌜ TempsMoved n base takes gives (now (temps .entry)) (now (temps .exit)) r ⌝ }
+{
+    let moving = changes(takes, gives);
+    let mut word = start;
+    let mut c = sets::member_from(moving, 0);
+    while c < n {
+        let at = base + c;
+        let tokens = shift_tokens(temps[at], sets::member(takes, c));
+        temps[at] = tokens;
+        word = words::assign(word, c, 0 < tokens);
+        c = sets::member_from(moving, c + 1);
+    }
+    word
+}
+
+// Fires a transition. The caller has found it ready by these words, and no temporary place holds more than 4,096 tokens.
+pub fn fire(
+    a: Arcs,
+    marks: Marked,
+    n: usize,
+    capacities: &[u8; 48],
+    counts: &mut [u8; 48],
+    temps: &mut [u16; 96],
+) -> Marked
+    requires { ⌜ Firable n (now capacities) (now counts) (now temps) a marks ⌝ }
+    ensures { λ r. ⌜ Fired n (now (capacities .entry)) (now (counts .entry)) (now (temps .entry)) a (now (counts .exit)) (now (temps .exit)) r ⌝ }
+{
+    let moved = move_counts(counts, capacities, n, a.takesContext, a.givesContext, marks);
+    let pr = move_temps(temps, 0, n, a.takesPr, a.givesPr, marks.pr);
+    let prNot = move_temps(temps, 48, n, a.takesNot, a.givesNot, marks.prNot);
+    Marked {
+        context: moved.context,
+        pr,
+        prNot,
+        spare: moved.spare,
+    }
+}

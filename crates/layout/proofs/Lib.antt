@@ -1,0 +1,3 @@
+pub mod Verdicts
+pub mod Parts
+pub mod Loads

@@ -1,0 +1,5 @@
+pub mod Puts
+pub mod Words
+pub mod Agrees
+pub mod Blocks
+pub mod Reaching

@@ -1,0 +1,2 @@
+pub mod Markings
+pub mod Walks
