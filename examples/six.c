@@ -32,6 +32,7 @@ static const uint8_t calls[] = {
     BOARD_UNDO, 0, 0,
     BOARD_SETTLE, 0, 0,
     BOARD_UNDO, 0, 0,
+    BOARD_DEACTIVATE, LOGGING, 0,
 };
 
 /* What the calls are to give: an answer each, then the counts and the totals. */
@@ -44,9 +45,10 @@ static const uint8_t expected[] = {
     0, 0, 0,
     0, 0, 0,
     BOARD_NOTHING_OPEN, 0, 0,
+    BOARD_ALREADY_OFF, 0, 0,
     1, 0, 0, 0, 0, 0,
     3, 0, 0, 0,
-    2, 0, 0, 0,
+    3, 0, 0, 0,
     2, 0, 0, 0,
 };
 

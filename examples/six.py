@@ -11,7 +11,7 @@ import sys
 # The numbers of include/board.h.
 EXCLUDES, CAUSES, IMPLIES, REQUIRES = 1, 2, 3, 4
 ACTIVATE, DEACTIVATE, UNDO, SETTLE = 0, 1, 2, 3
-WRONG_RECORDS, TOKENS_LEFT, NOTHING_OPEN = 9, 12, 13
+WRONG_RECORDS, TOKENS_LEFT, NOTHING_OPEN, ALREADY_OFF = 9, 12, 13, 14
 SHORTEST_IMAGE, LONGEST_IMAGE, LONGEST_LIST, LONGEST_STATE = 107, 9752, 338, 60
 
 NAMES = ["DUMPED", "RESET", "POWERED", "SOAK", "BATTERYOUT", "LOGGING"]
@@ -36,6 +36,7 @@ CALLS = [
     (UNDO, 0),
     (SETTLE, 0),
     (UNDO, 0),
+    (DEACTIVATE, LOGGING),
 ]
 # What the calls are to give: 0 or the refusal, the firings, and the counts after the call.
 EXPECTED = [
@@ -47,8 +48,9 @@ EXPECTED = [
     (0, 0, [1, 0, 0, 0, 0, 0]),
     (0, 0, [1, 0, 0, 0, 0, 0]),
     (NOTHING_OPEN, 0, [1, 0, 0, 0, 0, 0]),
+    (ALREADY_OFF, 0, [1, 0, 0, 0, 0, 0]),
 ]
-TOTALS = [3, 2, 2]
+TOTALS = [3, 3, 2]
 
 
 class Refused(Exception):

@@ -44,6 +44,7 @@
 #define BOARD_STEP_LIMIT_MET 11   /* 4,096 transitions fired and one could still fire */
 #define BOARD_TOKENS_LEFT 12      /* something that was asked for could not be done */
 #define BOARD_NOTHING_OPEN 13     /* nothing is open to be undone */
+#define BOARD_ALREADY_OFF 14      /* the context to be deactivated is not active; tested straight after 10 */
 
 /* Lengths in bytes. An image has n + 3r + 49t + 8, where t is 2n plus the relations that are no exclusions; a list has 2 + n + 3r. */
 #define BOARD_SHORTEST_IMAGE 107 /* n = 1, r = 0 */

@@ -1,5 +1,5 @@
-//! The optimised side: the machine of document 01 behind the same four
-//! functions as the proved engine. Sets are bit masks, the transitions are
+//! The optimised side: the papers' machine behind the same four functions
+//! as the proved engine. Sets are bit masks, the transitions are
 //! composed once per list of calls, and no call allocates.
 
 mod arcs;

@@ -260,7 +260,7 @@ fn random_jobs_meet_every_value() {
     }
     assert_eq!(composing, BTreeSet::from([3, 5, 6, 7, 8, 100]));
     assert_eq!(loading, BTreeSet::from([0, 1, 2, 3, 4, 5, 6, 7, 9]));
-    assert_eq!(answering, BTreeSet::from([0, 10, 11, 12, 13]));
+    assert_eq!(answering, BTreeSet::from([0, 10, 11, 12, 13, 14]));
 }
 
 fn check_value(image: &[u8]) -> u64 {
@@ -362,8 +362,10 @@ fn the_papers_cases() {
     assert_eq!(counts(&[3, 3, off(2), off(2)]), [0; 6]);
     assert_eq!(last(&[0, 4, 3]), (12, 2));
     assert_eq!(counts(&[0, 4, 3]), [1, 0, 0, 0, 1, 0]);
-    assert_eq!(last(&[off(5)]), (0, 1));
-    assert_eq!(last(&[off(2)]), (12, 0));
+    assert_eq!(last(&[off(5)]), (14, 0));
+    assert_eq!(last(&[off(2)]), (14, 0));
+    assert_eq!(last(&[3, off(5), off(5)]), (14, 0));
+    assert_eq!(last(&[off(6)]), (10, 0));
 }
 
 #[test]

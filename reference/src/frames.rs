@@ -81,6 +81,11 @@ fn proved_cases(frames: &mut Vec<Frame>) {
         "+0 +4 +3 -0 u u s u",
         "+0 +1 +1 -0 u -1 -0 u u u u u",
         "+6 -6 +255 -255 u s +3 u u",
+        "+3 -5 -5 -3 -3 u u",
+        "+3 -5 -2 -5 u u",
+        "+5 +5 -5 -5 -5 u -5",
+        "-4 +0 -4 -0 -0 u u u",
+        "-6 +6 +5 -0 -5 -5",
     ];
     for list in lists {
         add(frames, &six_conditions(), list);

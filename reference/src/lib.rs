@@ -1,5 +1,5 @@
-//! The context Petri net machine of document 01, written for comparison:
-//! plain and readable, with no regard for speed beyond the necessary.
+//! The context Petri net machine of documents 01 and 02, written for
+//! comparison: plain and readable, with no regard for speed beyond the necessary.
 
 pub mod bench_run;
 pub mod compose_cases;

@@ -195,6 +195,7 @@ impl Machine {
     pub fn call(&mut self, call: Call) -> Answer {
         match call {
             Call::Activate(c) => self.request(c, |marking| marking.pr[c] += 1),
+            Call::Deactivate(c) if self.count(c) == Ok(0) => self.refuse(refusal::ALREADY_OFF, 0),
             Call::Deactivate(c) => self.request(c, |marking| marking.pr_not[c] += 1),
             Call::Undo => self.undo(),
             Call::Settle => self.settle(),
@@ -286,6 +287,14 @@ mod tests {
             undone: u32::MAX,
         };
         assert_eq!(machine.totals(), full);
+    }
+
+    #[test]
+    fn only_a_context_of_the_net_is_already_off() {
+        let mut machine = Machine::fresh(Net::build(&[7], &[]).unwrap());
+        let verdicts = [0, 1].map(|c| machine.call(Call::Deactivate(c)).verdict);
+        assert_eq!(verdicts, [refusal::ALREADY_OFF, refusal::CONTEXT_NUMBER]);
+        assert_eq!(machine.totals().refused, 2);
     }
 
     #[test]

@@ -1,4 +1,4 @@
-//! The refusals by document 01's numbers.
+//! The refusals by their numbers in documents 01 and 02.
 
 /// Stands where a refusal's number would, when nothing was refused.
 pub const GRANTED: u8 = 0;
@@ -16,3 +16,4 @@ pub const CONTEXT_NUMBER: u8 = 10;
 pub const STEP_LIMIT: u8 = 11;
 pub const TEMPORARY_TOKEN: u8 = 12;
 pub const NOTHING_TO_UNDO: u8 = 13;
+pub const ALREADY_OFF: u8 = 14;

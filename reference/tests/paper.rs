@@ -1,4 +1,4 @@
-//! The numbers that document 01 states.
+//! The numbers that documents 01 and 02 state.
 
 use reference::examples::{
     doubling, ring, single, six_conditions, Description, CAUSES, EXCLUDES, IMPLIES, REQUIRES,
@@ -79,8 +79,24 @@ fn p7_an_exclusion_rolls_back() {
 
 #[test]
 fn p8_switching_off_what_is_off() {
-    assert_eq!(on_six("-5"), (vec![(0, 1)], vec![0; 6]));
-    assert_eq!(on_six("-2"), (vec![(12, 0)], vec![0; 6]));
+    assert_eq!(on_six("-5"), (vec![(14, 0)], vec![0; 6]));
+    assert_eq!(on_six("-2"), (vec![(14, 0)], vec![0; 6]));
+}
+
+#[test]
+fn switching_off_once_more_changes_nothing() {
+    let answers = vec![(0, 3), (0, 1), (14, 0), (0, 3)];
+    assert_eq!(on_six("+3 -5 -5 -3"), (answers, vec![0; 6]));
+    let mut machine = machine_of(&six_conditions());
+    let answers = run(&mut machine, "-5 +3 -5 -5 u u u");
+    let verdicts: Vec<u8> = answers.iter().map(|answer| answer.verdict).collect();
+    assert_eq!(verdicts, [14, 0, 0, 14, 0, 0, 13]);
+    let totals = Totals {
+        granted: 2,
+        refused: 3,
+        undone: 2,
+    };
+    assert_eq!(machine.totals(), totals);
 }
 
 #[test]
@@ -183,7 +199,7 @@ fn quiet_after_exactly_the_step_limit_is_not_refused_with_11() {
 
     assert_eq!(outcome(&doubling(0), "+0 -0").0, [(0, 4095), (0, 4095)]);
     assert_eq!(outcome(&doubling(1), "+0 -0").0, [(0, 4096), (0, 4096)]);
-    assert_eq!(outcome(&doubling(2), "+0 -0").0, [(11, 4096), (12, 0)]);
+    assert_eq!(outcome(&doubling(2), "+0 -0").0, [(11, 4096), (14, 0)]);
 }
 
 #[test]
@@ -270,7 +286,7 @@ fn bench_run_marks_other_lines() {
     assert_eq!(bench(&image, b""), "");
     assert_eq!(
         bench(&image, b"+255\n-6\n-5"),
-        "+255 10 0\n-6 10 0\n-5 0 1\n"
+        "+255 10 0\n-6 10 0\n-5 14 0\n"
     );
     assert_eq!(bench(b"", b"+0\nu\ns\n"), "+0 10 0\nu 13 0\ns 0 0\n");
 }

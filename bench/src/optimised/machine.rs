@@ -7,6 +7,7 @@ pub const REFUSED_CONTEXT: u8 = 10;
 pub const REFUSED_LIMIT: u8 = 11;
 pub const REFUSED_TOKEN: u8 = 12;
 pub const REFUSED_UNDO: u8 = 13;
+pub const REFUSED_OFF: u8 = 14;
 const GRANTED: u8 = 0;
 
 const STEP_LIMIT: u16 = 4096;
@@ -206,6 +207,9 @@ impl<'net, const SPARSE: bool> Machine<'net, SPARSE> {
     pub fn deactivate(&mut self, context: usize) -> Answer {
         if context >= self.contexts() {
             return self.refuse(REFUSED_CONTEXT, 0);
+        }
+        if self.marking.board.active & (1 << context) == 0 {
+            return self.refuse(REFUSED_OFF, 0);
         }
         self.marking.pr_not.add(1 << context);
         self.request()

@@ -142,4 +142,4 @@ module _ (net : Net) (counts requests₀ markings : List ℕ) (ring : Ring) (slo
 
 -- a granted request's context is one of the net's
 pub granted-inside : (net : Net) (m : Counts) (r : Request) (answer : Answer) (counts₁ : List ℕ) → Judges answer counts₁ (effect net m r) → answer .verdict ≡ Granted → r .context < size net
-granted-inside net m r answer counts₁ j g = explained net m r .granted .0 (ap (λ (a : Answer). a .verdict) (sym (j .answer)) ∙ g) .0
+granted-inside net m r answer counts₁ j g = explained net m r .granted .0 (ap (λ (a : Answer). a .verdict) (sym (j .answer)) ∙ g) .0 .inside

@@ -163,7 +163,7 @@ refused-unsound r e p t call same q =
     let empty : size (b .net) ≤ r .context = subst (λ (x : Bool). size (cond x (net-in (e .n) (e .capacities) (e .r) (e .relations)) empty-net) ≤ r .context) (sym p) (omega arith) in
     let x = explained (b .net) (b .counts) r in
     let v = x .ten .1 empty in
-    let f = x .unfired empty in
+    let f = x .unfired (λ a. let l = a .inside in omega arith) in
     let a : effect (b .net) (b .counts) r .answer ≡ without-firings (Refused 10) = λ i. record { verdict = v i; firings = f i } in (
       b,
       reply-call b r

@@ -5,13 +5,14 @@ use Prim.Native.Nat.{ℕ, _<_}
 use native.Mathlib.Omega.{arith}
 use mathlib.Core.Path.{_≡_, refl, sym, subst, ap}
 use mathlib.Core.Logic.{_↔_, inl, inr, ⊎-elim}
-use mathlib.Core.Bool.{Bool, cond}
+use mathlib.Core.Bool.{Bool, true, cond}
 use mathlib.Core.List.{List, [], _∷_, _++_, List·Memᴰ, List·Memᴰ·head, List·Memᴰ·tail, List·Memᴰ·not-nil, List·Memᴰ·cases-cons}
 use borrow.Author.Tests.{lt-leb, le-leb}
 use Rattle.model.specs.Sets.{Each, nil, cons}
 use Rattle.model.specs.Refusals.{verdict-number, is-granted, refuse, first-refusal, no-such-context}
 use Rattle.model.specs.Relations.{Net, size, empty-net}
-use Rattle.model.specs.Machine.{Request, Counts, Effect, Board, Entry, State, Reading, activation, deactivation, effect, make-request, undo-from, settle, reply, respond, reading, reading-checks}
+use Rattle.model.specs.Firing.{Outcome}
+use Rattle.model.specs.Machine.{Request, Counts, Effect, checks-before, checks-after, Board, Entry, State, Reading, activation, deactivation, effect, make-request, undo-from, settle, reply, respond, reading, reading-checks}
 use Rattle.model.specs.Image.{Format, image, given-net, net-of, records-of, trailer-of, load, load-checks, compose, compose-checks}
 use Rattle.model.specs.Claims.{Reads, LoadRefused, ComposeRefused, OneOf, FirstBroken, InOrder, numbers, call-refusals}
 use lib.ListN.{length, drop}
@@ -20,7 +21,8 @@ use Rattle.model.specs.declared.Call.the-variants.{Activate, Deactivate,
 use Rattle.model.specs.declared.Verdict.{Verdict}
 use Rattle.model.specs.declared.Verdict.the-variants.{Granted, Refused}
 use Rattle.model.proofs.Checks.{one-of, refused-first, in-order}
-use Rattle.model.proofs.Effects.{Judged, outside, unfinished, unclear, completed, judged}
+use Rattle.model.proofs.Effects.{Judged, outside, idle, unfinished, unclear, completed, judged}
+use Rattle.model.proofs.Tests.{not-both}
 
 -- the order of loading
 pub load-order : (f : Format) (img : List ℕ) → numbers (load-checks f img) ≡ 1 ∷ 2 ∷ 3 ∷ 4 ∷ 5 ∷ 6 ∷ 7 ∷ 9 ∷ []
@@ -29,6 +31,11 @@ load-order f img = refl
 -- the order of composing
 pub compose-order : (f : Format) (caps bs : List ℕ) (room : ℕ) → numbers (compose-checks f caps bs room) ≡ 3 ∷ 5 ∷ 6 ∷ 7 ∷ 8 ∷ []
 compose-order f caps bs room = refl
+
+-- the order of a request's checks, before its step and after it
+pub request-order : (net : Net) (m : Counts) (r : Request) (o : Outcome)
+    → (numbers (checks-before net m r) ≡ 10 ∷ 14 ∷ []) × (numbers (checks-after net m r o) ≡ 11 ∷ 12 ∷ [])
+request-order net m r o = (refl, refl)
 
 -- the one check of a reading
 pub reading-order : (n c : ℕ) → numbers (reading-checks n c) ≡ 10 ∷ []
@@ -62,14 +69,29 @@ pub compose-first : (f : Format) (caps bs out : List ℕ) (k : ℕ) → compose 
 unfolding compose
 compose-first f caps bs out k e = refused-first (compose-checks f caps bs (length out)) k e
 
-effect-answers : (net : Net) (m : Counts) (r : Request) → OneOf (10 ∷ 11 ∷ 12 ∷ []) (effect net m r .answer .verdict)
-effect-answers net m r = go (judged net m r)
+abbrev verdict-of : Effect → Verdict
+verdict-of x = x .answer .verdict
+
+-- the refusals of a request, and of an activation, which never meets 14
+request-answers : (net : Net) (m : Counts) (r : Request) → OneOf (10 ∷ 14 ∷ 11 ∷ 12 ∷ []) (effect net m r .answer .verdict)
+request-answers net m r = go (judged net m r)
   where
-    go : Judged net m r → OneOf (10 ∷ 11 ∷ 12 ∷ []) (effect net m r .answer .verdict)
-    go (outside h e) = inr (10, List·Memᴰ·head refl, ap (λ (x : Effect). x .answer .verdict) e)
-    go (unfinished h u e) = inr (11, List·Memᴰ·tail (List·Memᴰ·head refl), ap (λ (x : Effect). x .answer .verdict) e)
-    go (unclear h q k e) = inr (12, List·Memᴰ·tail (List·Memᴰ·tail (List·Memᴰ·head refl)), ap (λ (x : Effect). x .answer .verdict) e)
-    go (completed h c e) = inl (ap (λ (x : Effect). x .answer .verdict) e)
+    go : Judged net m r → OneOf (10 ∷ 14 ∷ 11 ∷ 12 ∷ []) (effect net m r .answer .verdict)
+    go (outside h e) = inr (10, List·Memᴰ·head refl, ap verdict-of e)
+    go (idle h e) = inr (14, List·Memᴰ·tail (List·Memᴰ·head refl), ap verdict-of e)
+    go (unfinished h u e) = inr (11, List·Memᴰ·tail (List·Memᴰ·tail (List·Memᴰ·head refl)), ap verdict-of e)
+    go (unclear h q k e) = inr (12, List·Memᴰ·tail (List·Memᴰ·tail (List·Memᴰ·tail (List·Memᴰ·head refl))), ap verdict-of e)
+    go (completed h c e) = inl (ap verdict-of e)
+
+activation-answers : (net : Net) (m : Counts) (c : ℕ) → OneOf (10 ∷ 11 ∷ 12 ∷ []) (effect net m (activation c) .answer .verdict)
+activation-answers net m c = go (judged net m (activation c))
+  where
+    go : Judged net m (activation c) → OneOf (10 ∷ 11 ∷ 12 ∷ []) (effect net m (activation c) .answer .verdict)
+    go (outside h e) = inr (10, List·Memᴰ·head refl, ap verdict-of e)
+    go (idle h e) = absurd (not-both true refl (h .deactivates))
+    go (unfinished h u e) = inr (11, List·Memᴰ·tail (List·Memᴰ·head refl), ap verdict-of e)
+    go (unclear h q k e) = inr (12, List·Memᴰ·tail (List·Memᴰ·tail (List·Memᴰ·head refl)), ap verdict-of e)
+    go (completed h c e) = inl (ap verdict-of e)
 
 undo-answers : (b : Board) (es : List Entry) → OneOf (13 ∷ []) (undo-from b es .answer .verdict)
 unfolding undo-from
@@ -130,7 +152,7 @@ number-granted ks above v o =
 -- every call on the machine
 pub call-answers : (s : State) (c : Call) → OneOf (call-refusals c) (respond s c .answer .verdict)
 unfolding respond reply make-request settle
-call-answers s (Activate c) = effect-answers (s .board .net) (s .board .counts) (activation c)
-call-answers s (Deactivate c) = effect-answers (s .board .net) (s .board .counts) (deactivation c)
+call-answers s (Activate c) = activation-answers (s .board .net) (s .board .counts) c
+call-answers s (Deactivate c) = request-answers (s .board .net) (s .board .counts) (deactivation c)
 call-answers s Undo = undo-answers (s .board) (s .board .opened)
 call-answers s Settle = inl refl

@@ -1,31 +1,33 @@
--- What a request meets: 10 outside the net, 11 where its step met the limit, 12 where a token is left, and otherwise it is granted.
+-- What a request meets: 10 outside the net, 14 where it is to deactivate what is not active, 11 where its step met the limit, 12 where a
+-- token is left, and otherwise it is granted.
 -- Assumes nothing.
-use Prim.Native.Nat.{ℕ, _<_, _≤_}
+use Prim.Native.Nat.{ℕ, zero, suc, _<_, _≤_}
 use native.Mathlib.Omega.{arith}
 use mathlib.Core.Path.{_≡_, refl, sym, subst, ap, _∙_}
 use mathlib.Core.Bool.{Bool, true, false, not}
 use mathlib.Core.Option.{Option·none-ne-some}
-use lib.Dec.{leb}
+use lib.Dec.{eqb, leb}
 use lib.ListN.{length}
-use borrow.Author.Tests.{leb-true, leb-false}
+use borrow.Author.Tests.{leb-true, leb-false, eqb-true, eq-eqb}
 use Rattle.model.specs.Refusals.{is-granted}
 use Rattle.model.specs.Relations.{Net, size}
 use Rattle.model.specs.Firing.{Outcome, clear, step-limit}
-use Rattle.model.specs.Machine.{Request, Counts, Effect, initial-marking, step-of, concluded, effect, without-firings}
-use Rattle.model.specs.Claims.{Unfinished, Quiet, Completed, Explained}
+use Rattle.model.specs.Machine.{Request, Counts, Effect, initial-marking, step-of, asks-nothing, concluded, effect, without-firings}
+use Rattle.model.specs.Claims.{Unfinished, Quiet, Completed, Off, Admitted, Explained}
 use Rattle.model.specs.declared.Verdict.{Verdict}
 use Rattle.model.specs.declared.Verdict.the-variants.{Granted, Refused}
-use Rattle.model.proofs.Tests.{not-both}
+use Rattle.model.proofs.Tests.{not-true, not-both, and-left, and-right, and-both}
 use Rattle.model.proofs.Runs.{run-firings, quiet-run, unfinished-run}
 
--- the four ways that a request goes
+-- the five ways that a request goes
 pub data Judged (net : Net) (m : Counts) (r : Request) : Type 0 where
   outside : size net ≤ r .context → effect net m r ≡ record { answer = without-firings (Refused 10); counts = m } → Judged net m r
-  unfinished : r .context < size net → Unfinished net (step-of net m r)
+  idle : Off net m r → effect net m r ≡ record { answer = without-firings (Refused 14); counts = m } → Judged net m r
+  unfinished : Admitted net m r → Unfinished net (step-of net m r)
       → effect net m r ≡ record { answer = record { verdict = Refused 11; firings = length (step-of net m r .fired) }; counts = m } → Judged net m r
-  unclear : r .context < size net → Quiet net (step-of net m r) → clear net (step-of net m r .marking) ≡ false
+  unclear : Admitted net m r → Quiet net (step-of net m r) → clear net (step-of net m r .marking) ≡ false
       → effect net m r ≡ record { answer = record { verdict = Refused 12; firings = length (step-of net m r .fired) }; counts = m } → Judged net m r
-  completed : r .context < size net → Completed net (step-of net m r)
+  completed : Admitted net m r → Completed net (step-of net m r)
       → effect net m r
       ≡ record { answer = record { verdict = Granted; firings = length (step-of net m r .fired) }; counts = step-of net m r .marking .count }
       → Judged net m r
@@ -40,33 +42,64 @@ module _ (net : Net) (m : Counts) (r : Request) where
   abbrev end : Outcome
   end = step-of net m r
 
-  -- the effect, by the three tests
-  abbrev effect-by : (beyond quiet clear : Bool) → Effect
-  effect-by b q k =
-      elim (elim b as (λ _. Verdict) [ true ↦ Refused 10 | false ↦ Granted ]) as (λ _. Effect) [
+  -- the effect, by the four tests
+  abbrev effect-by : (beyond off quiet clear : Bool) → Effect
+  effect-by b f q k =
+      elim (elim b as (λ _. Verdict) [ true ↦ Refused 10 | false ↦ elim f as (λ _. Verdict) [ true ↦ Refused 14 | false ↦ Granted ] ]) as (λ _. Effect) [
         | Granted ↦ concluded m end (elim (not q) as (λ _. Verdict) [ true ↦ Refused 11 | false ↦ elim (not k) as (λ _. Verdict) [ true ↦ Refused 12 | false ↦ Granted ] ])
         | Refused j ↦ record { answer = without-firings (Refused j); counts = m }
       ]
 
+  -- what the two tests before the step say of the request
+  off : leb (size net) (r .context) ≡ false → asks-nothing m r ≡ true → Off net m r
+  off p f =
+      record {
+        inside = leb-false (size net) (r .context) p;
+        deactivates = not-true (r .on) (λ t. not-both (not (r .on)) (and-left (not (r .on)) (eqb (m (r .context)) 0) f) (ap not t));
+        none-held = eqb-true (m (r .context)) 0 (and-right (not (r .on)) (eqb (m (r .context)) 0) f);
+      }
+
+  admitted : leb (size net) (r .context) ≡ false → asks-nothing m r ≡ false → Admitted net m r
+  admitted p f = record { inside = leb-false (size net) (r .context) p; active = λ e. above (m (r .context)) (λ z. holds e z) }
+    where
+      holds : r .on ≡ false → m (r .context) ≡ 0 → ⊥
+      holds e z = not-both (asks-nothing m r) (and-both (ap not e) (eq-eqb (m (r .context)) 0 z)) f
+
+      above : (k : ℕ) → (k ≡ 0 → ⊥) → 0 < k
+      above zero d = absurd (d refl)
+      above (suc k) d = omega arith
+
   pub judged : Judged net m r
   unfolding effect concluded
-  judged = go (leb (size net) (r .context)) refl (end .quiet) refl (clear net (end .marking)) refl
+  judged = go (leb (size net) (r .context)) refl (asks-nothing m r) refl (end .quiet) refl (clear net (end .marking)) refl
     where
-      go : (b : Bool) → leb (size net) (r .context) ≡ b → (q : Bool) → end .quiet ≡ q → (k : Bool) → clear net (end .marking) ≡ k → Judged net m r
-      go true p q e k f = outside (leb-true (size net) (r .context) p) (ap (λ (x : Bool). effect-by x (end .quiet) (clear net (end .marking))) p)
-      go false p false e k f =
-          unfinished (leb-false (size net) (r .context) p) (unfinished-run net (initial-marking m r) e)
-          (λ i. effect-by (p i) (e i) (clear net (end .marking)))
-      go false p true e false f =
-          unclear (leb-false (size net) (r .context) p) (quiet-run net step-limit (initial-marking m r) e) f
-          (λ i. effect-by (p i) (e i) (f i))
-      go false p true e true f =
-          completed (leb-false (size net) (r .context) p)
-          (record { quiet = quiet-run net step-limit (initial-marking m r) e; cleared = f })
-          (λ i. effect-by (p i) (e i) (f i))
+      go : (b : Bool) → leb (size net) (r .context) ≡ b → (f : Bool) → asks-nothing m r ≡ f → (q : Bool) → end .quiet ≡ q
+          → (k : Bool) → clear net (end .marking) ≡ k → Judged net m r
+      go true p f a q e k c = outside (leb-true (size net) (r .context) p) (ap (λ (x : Bool). effect-by x (asks-nothing m r) (end .quiet) (clear net (end .marking))) p)
+      go false p true a q e k c = idle (off p a) (λ i. effect-by (p i) (a i) (end .quiet) (clear net (end .marking)))
+      go false p false a false e k c =
+          unfinished (admitted p a) (unfinished-run net (initial-marking m r) e)
+          (λ i. effect-by (p i) (a i) (e i) (clear net (end .marking)))
+      go false p false a true e false c =
+          unclear (admitted p a) (quiet-run net step-limit (initial-marking m r) e) c
+          (λ i. effect-by (p i) (a i) (e i) (c i))
+      go false p false a true e true c =
+          completed (admitted p a)
+          (record { quiet = quiet-run net step-limit (initial-marking m r) e; cleared = c })
+          (λ i. effect-by (p i) (a i) (e i) (c i))
 
   clash : Quiet net end → Unfinished net end → ⊥
   clash q u = Option·none-ne-some (u .enabled .0) (sym (q .still) ∙ u .enabled .1)
+
+  -- what no admitted request is: one outside the net, one that asks for nothing
+  inside-of : size net ≤ r .context → Admitted net m r → ⊥
+  inside-of h x = let l = x .inside in omega arith
+
+  active-of : Off net m r → Admitted net m r → ⊥
+  active-of o x = let l = x .active (o .deactivates) in let z = o .none-held in omega arith
+
+  outside-of : size net ≤ r .context → Off net m r → ⊥
+  outside-of h o = let l = o .inside in omega arith
 
   pub explained : Explained net m r
   explained = go judged
@@ -76,54 +109,71 @@ module _ (net : Net) (m : Counts) (r : Request) where
           let v = ap (λ (x : Effect). x .answer .verdict) e in
           record {
             ten = (λ _. h, λ _. v);
-            eleven = (λ p. absurd (other 10 11 v p (omega arith)), λ x. let l = x .0 in absurd (omega arith));
-            twelve = (λ p. absurd (other 10 12 v p (omega arith)), λ x. let l = x .0 in absurd (omega arith));
-            granted = (λ p. absurd (never p v), λ x. let l = x .0 in absurd (omega arith));
+            fourteen = (λ p. absurd (other 10 14 v p (omega arith)), λ x. absurd (outside-of h x));
+            eleven = (λ p. absurd (other 10 11 v p (omega arith)), λ x. absurd (inside-of h (x .0)));
+            twelve = (λ p. absurd (other 10 12 v p (omega arith)), λ x. absurd (inside-of h (x .0)));
+            granted = (λ p. absurd (never p v), λ x. absurd (inside-of h (x .0)));
             moved = λ p. absurd (never p v);
             kept = λ k p. ap (λ (x : Effect). x .counts) e;
-            fired = λ l. absurd (omega arith);
-            unfired = λ l. ap (λ (x : Effect). x .answer .firings) e;
+            fired = λ x. absurd (inside-of h x);
+            unfired = λ _. ap (λ (x : Effect). x .answer .firings) e;
+          }
+      go (idle h e) =
+          let v = ap (λ (x : Effect). x .answer .verdict) e in
+          record {
+            ten = (λ p. absurd (other 14 10 v p (omega arith)), λ l. absurd (outside-of l h));
+            fourteen = (λ _. h, λ _. v);
+            eleven = (λ p. absurd (other 14 11 v p (omega arith)), λ x. absurd (active-of h (x .0)));
+            twelve = (λ p. absurd (other 14 12 v p (omega arith)), λ x. absurd (active-of h (x .0)));
+            granted = (λ p. absurd (never p v), λ x. absurd (active-of h (x .0)));
+            moved = λ p. absurd (never p v);
+            kept = λ k p. ap (λ (x : Effect). x .counts) e;
+            fired = λ x. absurd (active-of h x);
+            unfired = λ _. ap (λ (x : Effect). x .answer .firings) e;
           }
       go (unfinished h u e) =
           let v = ap (λ (x : Effect). x .answer .verdict) e in
           record {
-            ten = (λ p. absurd (other 11 10 v p (omega arith)), λ l. absurd (omega arith));
+            ten = (λ p. absurd (other 11 10 v p (omega arith)), λ l. absurd (inside-of l h));
+            fourteen = (λ p. absurd (other 11 14 v p (omega arith)), λ o. absurd (active-of o h));
             eleven = (λ _. (h, u), λ _. v);
             twelve = (λ p. absurd (other 11 12 v p (omega arith)), λ x. absurd (clash (x .1) u));
             granted = (λ p. absurd (never p v), λ x. absurd (clash (x .1 .quiet) u));
             moved = λ p. absurd (never p v);
             kept = λ k p. ap (λ (x : Effect). x .counts) e;
-            fired = λ l. ap (λ (x : Effect). x .answer .firings) e;
-            unfired = λ l. absurd (omega arith);
+            fired = λ _. ap (λ (x : Effect). x .answer .firings) e;
+            unfired = λ d. absurd (d h);
           }
       go (unclear h q k e) =
           let v = ap (λ (x : Effect). x .answer .verdict) e in
           record {
-            ten = (λ p. absurd (other 12 10 v p (omega arith)), λ l. absurd (omega arith));
+            ten = (λ p. absurd (other 12 10 v p (omega arith)), λ l. absurd (inside-of l h));
+            fourteen = (λ p. absurd (other 12 14 v p (omega arith)), λ o. absurd (active-of o h));
             eleven = (λ p. absurd (other 12 11 v p (omega arith)), λ x. absurd (clash q (x .1)));
             twelve = (λ _. (h, q, k), λ _. v);
             granted = (λ p. absurd (never p v), λ x. absurd (not-both _ (x .1 .cleared) k));
             moved = λ p. absurd (never p v);
             kept = λ k p. ap (λ (x : Effect). x .counts) e;
-            fired = λ l. ap (λ (x : Effect). x .answer .firings) e;
-            unfired = λ l. absurd (omega arith);
+            fired = λ _. ap (λ (x : Effect). x .answer .firings) e;
+            unfired = λ d. absurd (d h);
           }
       go (completed h c e) =
           let v = ap (λ (x : Effect). x .answer .verdict) e in
           record {
-            ten = (λ p. absurd (never v p), λ l. absurd (omega arith));
+            ten = (λ p. absurd (never v p), λ l. absurd (inside-of l h));
+            fourteen = (λ p. absurd (never v p), λ o. absurd (active-of o h));
             eleven = (λ p. absurd (never v p), λ x. absurd (clash (c .quiet) (x .1)));
             twelve = (λ p. absurd (never v p), λ x. absurd (not-both _ (c .cleared) (x .2)));
             granted = (λ _. (h, c), λ _. v);
             moved = λ p. ap (λ (x : Effect). x .counts) e;
             kept = λ k p. absurd (never v p);
-            fired = λ l. ap (λ (x : Effect). x .answer .firings) e;
-            unfired = λ l. absurd (omega arith);
+            fired = λ _. ap (λ (x : Effect). x .answer .firings) e;
+            unfired = λ d. absurd (d h);
           }
 
   -- a granted request's step, and the effect that it has
   pub record Grant : Type 0 where
-    pub inside : r .context < size net
+    pub admitted : Admitted net m r
     pub step : Completed net end
     pub counts : effect net m r .counts ≡ end .marking .count
     pub firings : effect net m r .answer .firings ≡ length (end .fired)
@@ -133,10 +183,11 @@ module _ (net : Net) (m : Counts) (r : Request) where
     where
       go : Judged net m r → Grant
       go (outside h e) = absurd (not-both _ g (ap (λ (x : Effect). is-granted (x .answer .verdict)) e))
+      go (idle h e) = absurd (not-both _ g (ap (λ (x : Effect). is-granted (x .answer .verdict)) e))
       go (unfinished h u e) = absurd (not-both _ g (ap (λ (x : Effect). is-granted (x .answer .verdict)) e))
       go (unclear h q k e) = absurd (not-both _ g (ap (λ (x : Effect). is-granted (x .answer .verdict)) e))
       go (completed h c e) =
-          record { inside = h; step = c; counts = ap (λ (x : Effect). x .counts) e; firings = ap (λ (x : Effect). x .answer .firings) e }
+          record { admitted = h; step = c; counts = ap (λ (x : Effect). x .counts) e; firings = ap (λ (x : Effect). x .answer .firings) e }
 
   -- the firings of a request are those of its step, or none
   pub effect-firings : (P : ℕ → Type 0) → P 0 → P (length (end .fired)) → P (effect net m r .answer .firings)
@@ -144,6 +195,7 @@ module _ (net : Net) (m : Counts) (r : Request) where
     where
       go : Judged net m r → P (effect net m r .answer .firings)
       go (outside h e) = subst P (sym (ap (λ (x : Effect). x .answer .firings) e)) none-made
+      go (idle h e) = subst P (sym (ap (λ (x : Effect). x .answer .firings) e)) none-made
       go (unfinished h u e) = subst P (sym (ap (λ (x : Effect). x .answer .firings) e)) made
       go (unclear h q k e) = subst P (sym (ap (λ (x : Effect). x .answer .firings) e)) made
       go (completed h c e) = subst P (sym (ap (λ (x : Effect). x .answer .firings) e)) made

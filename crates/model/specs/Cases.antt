@@ -1,6 +1,6 @@
--- Document 01, "Six conditions": one list of cases that the definitions are held to by computation. P1 to P9 and the other worked examples
--- come first; then the records of the six conditions, the edges of loading and composing, and small nets on which a wrong net or a wrong
--- machine gives another result.
+-- Document 01, "Six conditions", and what document 02 changes there: one list of cases that the definitions are held to by computation.
+-- P1 to P9 and the other worked examples come first; then the records of the six conditions, the edges of loading and composing, and small
+-- nets on which a wrong net or a wrong machine gives another result.
 -- Assumes nothing.
 use Prim.Native.Nat.{ℕ, _+_, _*_}
 use mathlib.Core.Bool.{Bool, true, false, _&&_, not}
@@ -38,7 +38,7 @@ pub data Case : Type 0 where
   totals : Net → List Call → (granted refused undone : ℕ) → Case
   -- calls on a fresh net, and the history that they leave, a request being 2c for +c and 2c + 1 for -c
   leaves-history : Net → List Call → List ℕ → Case
-  -- calls on a fresh net, and the roles of what then fires in the step of a request
+  -- calls on a fresh net, and the roles of what fires in the step that a request makes then
   fires : Net → List Call → Request → List Role → Case
   -- a net's t, and its image's distances and length
   sizes : Net → (t to-relations to-records length : ℕ) → Case
@@ -105,9 +105,35 @@ cases =
     ∷ line Granted 1 (1 ∷ 0 ∷ 0 ∷ 0 ∷ 1 ∷ 0 ∷ [])
     ∷ line (Refused 12) 2 (1 ∷ 0 ∷ 0 ∷ 0 ∷ 1 ∷ 0 ∷ [])
     ∷ [])
-    -- P8: off where nothing is on: a drop serves -5, nothing serves -2
-    ∷ run six-conditions (Deactivate 5 ∷ []) (line Granted 1 (0 ∷ 0 ∷ 0 ∷ 0 ∷ 0 ∷ 0 ∷ []) ∷ [])
-    ∷ run six-conditions (Deactivate 2 ∷ []) (line (Refused 12) 0 (0 ∷ 0 ∷ 0 ∷ 0 ∷ 0 ∷ 0 ∷ []) ∷ [])
+    -- P8 as request a of document 02 has it: off where nothing is on, whether a drop could serve it (-5) or not (-2)
+    ∷ run six-conditions (Deactivate 5 ∷ []) (line (Refused 14) 0 (0 ∷ 0 ∷ 0 ∷ 0 ∷ 0 ∷ 0 ∷ []) ∷ [])
+    ∷ run six-conditions (Deactivate 2 ∷ []) (line (Refused 14) 0 (0 ∷ 0 ∷ 0 ∷ 0 ∷ 0 ∷ 0 ∷ []) ∷ [])
+    -- the same in the middle of a list: -5 once more, where 3 still causes it; then the cascade of -3 drops as in P5
+    ∷ run six-conditions (Activate 3 ∷ Deactivate 5 ∷ Deactivate 5 ∷ Deactivate 3 ∷ [])
+    (line Granted 3 (0 ∷ 0 ∷ 1 ∷ 1 ∷ 0 ∷ 1 ∷ [])
+    ∷ line Granted 1 (0 ∷ 0 ∷ 1 ∷ 1 ∷ 0 ∷ 0 ∷ [])
+    ∷ line (Refused 14) 0 (0 ∷ 0 ∷ 1 ∷ 1 ∷ 0 ∷ 0 ∷ [])
+    ∷ line Granted 3 (0 ∷ 0 ∷ 0 ∷ 0 ∷ 0 ∷ 0 ∷ [])
+    ∷ [])
+    -- such a request counts as refused and is in no history
+    ∷ totals six-conditions (Activate 3 ∷ Deactivate 5 ∷ Deactivate 5 ∷ Deactivate 3 ∷ []) 3 1 0
+    ∷ leaves-history six-conditions (Activate 3 ∷ Deactivate 5 ∷ Deactivate 5 ∷ Deactivate 3 ∷ []) (6 ∷ 11 ∷ 7 ∷ [])
+    -- a drop serves a forced transition too: -2 forces 3, which asks 5 off
+    ∷ run six-conditions (Activate 3 ∷ Deactivate 5 ∷ Deactivate 2 ∷ [])
+    (line Granted 3 (0 ∷ 0 ∷ 1 ∷ 1 ∷ 0 ∷ 1 ∷ [])
+    ∷ line Granted 1 (0 ∷ 0 ∷ 1 ∷ 1 ∷ 0 ∷ 0 ∷ [])
+    ∷ line Granted 3 (0 ∷ 0 ∷ 0 ∷ 0 ∷ 0 ∷ 0 ∷ [])
+    ∷ [])
+    ∷ fires six-conditions (Activate 3 ∷ Deactivate 5 ∷ []) (deactivation 2) (deactivates ∷ forces ∷ drops ∷ [])
+    -- 5 can go as often as it came, and not once more; the refused request opens nothing, so undo takes back the one before it
+    ∷ verdicts six-conditions (Activate 5 ∷ Activate 5 ∷ Deactivate 5 ∷ Deactivate 5 ∷ Deactivate 5 ∷ Undo ∷ Deactivate 5 ∷ [])
+    (Granted ∷ Granted ∷ Granted ∷ Granted ∷ Refused 14 ∷ Granted ∷ Granted ∷ [])
+    -- 10 goes before 14, on a board where every count is 0; an activation at count 0 never meets 14
+    ∷ run six-conditions (Deactivate 6 ∷ Activate 6 ∷ Activate 5 ∷ [])
+    (line (Refused 10) 0 (0 ∷ 0 ∷ 0 ∷ 0 ∷ 0 ∷ 0 ∷ [])
+    ∷ line (Refused 10) 0 (0 ∷ 0 ∷ 0 ∷ 0 ∷ 0 ∷ 0 ∷ [])
+    ∷ line Granted 1 (0 ∷ 0 ∷ 0 ∷ 0 ∷ 0 ∷ 1 ∷ [])
+    ∷ [])
     -- P9: the smallest image
     ∷ sizes one-context 2 98 98 107
     -- the sizes of the six conditions
@@ -128,8 +154,8 @@ cases =
     -- 33 activations, of which 32 can be undone
     ∷ verdicts six-conditions (replicate 33 (Activate 5) ++ replicate 33 Undo) (replicate 65 Granted ++ (Refused 13 ∷ []))
     -- a refused request keeps the open list, and refusal 10 counts
-    ∷ verdicts six-conditions (Activate 0 ∷ Deactivate 1 ∷ Activate 6 ∷ Undo ∷ []) (Granted ∷ Refused 12 ∷ Refused 10 ∷ Granted ∷ [])
-    ∷ totals six-conditions (Activate 0 ∷ Deactivate 1 ∷ Activate 6 ∷ Undo ∷ []) 1 2 1
+    ∷ verdicts six-conditions (Activate 0 ∷ Activate 0 ∷ Activate 6 ∷ Undo ∷ []) (Granted ∷ Refused 12 ∷ Refused 10 ∷ Granted ∷ [])
+    ∷ totals six-conditions (Activate 0 ∷ Activate 0 ∷ Activate 6 ∷ Undo ∷ []) 1 2 1
     -- a ring of three implications at capacity 2: refused when all are full, as the ring of 16 is at 255
     ∷ run (record { caps = 2 ∷ 2 ∷ 2 ∷ []; rels = relation implies 0 1 ∷ relation implies 1 2 ∷ relation implies 2 0 ∷ [] }) (Activate 0 ∷ [])
     (line (Refused 12) 6 (0 ∷ 0 ∷ 0 ∷ []) ∷ [])

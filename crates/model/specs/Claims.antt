@@ -79,7 +79,7 @@ InOrder cs =
 -- which refusals a call can meet
 abbrev pub call-refusals : Call → List ℕ
 call-refusals (Activate c) = Refusals.no-such-context ∷ Refusals.step-limit-met ∷ Refusals.tokens-left ∷ []
-call-refusals (Deactivate c) = Refusals.no-such-context ∷ Refusals.step-limit-met ∷ Refusals.tokens-left ∷ []
+call-refusals (Deactivate c) = Refusals.no-such-context ∷ Refusals.already-off ∷ Refusals.step-limit-met ∷ Refusals.tokens-left ∷ []
 call-refusals Undo = Refusals.nothing-open ∷ []
 call-refusals Settle = []
 
@@ -98,20 +98,32 @@ pub record Completed (net : Net) (o : Outcome) : Type 0 where
   pub quiet : Quiet net o
   pub cleared : clear net (o .marking) ≡ true
 
+-- a deactivation of a context of the net that is not active
+pub record Off (net : Net) (m : Counts) (r : Request) : Type 0 where
+  pub inside : r .context < size net
+  pub deactivates : r .on ≡ false
+  pub none-held : m (r .context) ≡ 0
+
+-- a request that makes a step: its context is the net's, and active where it is to be deactivated
+pub record Admitted (net : Net) (m : Counts) (r : Request) : Type 0 where
+  pub inside : r .context < size net
+  pub active : r .on ≡ false → 0 < m (r .context)
+
 -- exactly when a request gets which verdict
 pub record Explained (net : Net) (m : Counts) (r : Request) : Type 0 where
   pub ten : (effect net m r .answer .verdict ≡ Refused 10) ↔ (size net ≤ r .context)
-  pub eleven : (effect net m r .answer .verdict ≡ Refused 11) ↔ ((r .context < size net) × Unfinished net (step-of net m r))
+  pub fourteen : (effect net m r .answer .verdict ≡ Refused 14) ↔ Off net m r
+  pub eleven : (effect net m r .answer .verdict ≡ Refused 11) ↔ (Admitted net m r × Unfinished net (step-of net m r))
   pub twelve :
       (effect net m r .answer .verdict ≡ Refused 12)
-      ↔ ((r .context < size net) × Quiet net (step-of net m r) × (clear net (step-of net m r .marking) ≡ false))
-  pub granted : (effect net m r .answer .verdict ≡ Granted) ↔ ((r .context < size net) × Completed net (step-of net m r))
+      ↔ (Admitted net m r × Quiet net (step-of net m r) × (clear net (step-of net m r .marking) ≡ false))
+  pub granted : (effect net m r .answer .verdict ≡ Granted) ↔ (Admitted net m r × Completed net (step-of net m r))
   -- a granted request leaves the counts of its step's end, a refused one those before it
   pub moved : effect net m r .answer .verdict ≡ Granted → effect net m r .counts ≡ step-of net m r .marking .count
   pub kept : (k : ℕ) → effect net m r .answer .verdict ≡ Refused k → effect net m r .counts ≡ m
   -- the firings reported are those made
-  pub fired : r .context < size net → effect net m r .answer .firings ≡ length (step-of net m r .fired)
-  pub unfired : size net ≤ r .context → effect net m r .answer .firings ≡ 0
+  pub fired : Admitted net m r → effect net m r .answer .firings ≡ length (step-of net m r .fired)
+  pub unfired : (Admitted net m r → ⊥) → effect net m r .answer .firings ≡ 0
 
 -- ---- demand 3: what holds after every list of calls
 
@@ -136,10 +148,10 @@ pub record Resting (net : Net) (m : Counts) : Type 0 where
   pub within : (c : ℕ) → c < size net → m c ≤ capacity net c
   pub still : next-of net (at-rest m) ≡ none
 
--- where the event is a granted request, its step completed
+-- where the event is a granted request, it was one that makes a step, and the step completed
 abbrev pub Completes : Net → Event → Type 0
 Completes net e =
-    Each (λ (r : Request). is-granted (e .answer .verdict) ≡ true → Completed net (step-of net (e .before) r)) (requested (e .call))
+    Each (λ (r : Request). is-granted (e .answer .verdict) ≡ true → Admitted net (e .before) r × Completed net (step-of net (e .before) r)) (requested (e .call))
 
 -- the event of a request is what the request comes to at the counts before it: the answer, and the counts after
 pub record Made (net : Net) (e : Event) (r : Request) : Type 0 where
@@ -186,7 +198,7 @@ abbrev pub events : Net → Counts → List Call → List Event
 events net m₀ cs = log (begin net m₀) cs
 
 -- Demand 3, for the calls of a list taken together. A freshly loaded net starts at zeros (theorem demand3-loaded); the theorem demand3 has
--- it from any start that keeps the rules. Besides what document 01 asks, `listed` and `beyond` say where the history and the other numbers
+-- it from any start that keeps the rules. Besides what the papers ask, `listed` and `beyond` say where the history and the other numbers
 -- stand.
 pub record Demand3 (net : Net) (m₀ : Counts) (cs : List Call) : Type 0 where
   pub net-kept : ending net m₀ cs .board .net ≡ net
@@ -195,6 +207,8 @@ pub record Demand3 (net : Net) (m₀ : Counts) (cs : List Call) : Type 0 where
   -- and makes the same events again: each request granted, with its firings and the counts that it had before and after
   pub regranted : events net m₀ (replayed-calls (events net m₀ cs)) ≡ standing [] (events net m₀ cs)
   pub all-granted : Each (λ (e : Event). is-granted (e .answer .verdict) ≡ true) (standing [] (events net m₀ cs))
+  -- none of them asked to switch off what was off
+  pub admitted : Each (λ (e : Event). Each (Admitted net (e .before)) (requested (e .call))) (standing [] (events net m₀ cs))
   -- the history is what was settled and then what is open
   pub listed :
       history (events net m₀ cs) ≡ reverse (requests (ending net m₀ cs .board .opened) ++ ending net m₀ cs .board .settled)

@@ -1,13 +1,13 @@
--- Document 01, "The machine", with refusals 10 to 13: requests, undo, settling, totals and readings; then lists of calls, the history of a
--- list and its replay.
+-- Document 01, "The machine", with refusals 10 to 13 and document 02's 14: requests, undo, settling, totals and readings; then lists of
+-- calls, the history of a list and its replay.
 -- Assumes nothing.
 use Prim.Native.Nat.{ℕ, min, _+_}
 use mathlib.Core.Bool.{Bool, true, false, _&&_, not, cond}
 use mathlib.Core.List.{List, [], _∷_, _++_, map}
-use lib.Dec.{leb}
+use lib.Dec.{eqb, leb}
 use lib.ListN.{length, take, drop}
 use Rattle.model.specs.Sets.{singleton, bit, concat-map, drop-last}
-use Rattle.model.specs.Refusals.{Check, refuse, first-refusal, is-granted, no-such-context, step-limit-met, tokens-left, nothing-open}
+use Rattle.model.specs.Refusals.{Check, refuse, first-refusal, is-granted, no-such-context, step-limit-met, tokens-left, nothing-open, already-off}
 use Rattle.model.specs.Relations.{Net, size}
 use Rattle.model.specs.Firing.{Marking, Outcome, fire-until-quiet, step-limit, clear}
 use Rattle.model.specs.declared.Call.{Call}
@@ -53,9 +53,14 @@ initial-marking m r =
 abbrev pub step-of : Net → Counts → Request → Outcome
 step-of net m r = fire-until-quiet net step-limit (initial-marking m r)
 
--- the checks of a request before anything fires
+-- a deactivation of a context that holds no token
+abbrev pub asks-nothing : Counts → Request → Bool
+asks-nothing m r = not (r .on) && eqb (m (r .context)) 0
+
+-- The checks of a request before anything fires. The second is document 02's request a: what is off is not switched off once more. It is
+-- about the named context alone; what a step asks off goes to deac and drops as before.
 abbrev pub checks-before : Net → Counts → Request → List Check
-checks-before net m r = refuse no-such-context (leb (size net) (r .context)) ∷ []
+checks-before net m r = refuse no-such-context (leb (size net) (r .context)) ∷ refuse already-off (asks-nothing m r) ∷ []
 
 -- and those when its step has ended
 abbrev pub checks-after : Net → Counts → Request → Outcome → List Check

@@ -1,4 +1,4 @@
--- Document 01, "When a call is refused": the thirteen numbers, and what it means that checks run in order.
+-- Document 01, "When a call is refused", and document 02, request a: the fourteen numbers, and what it means that checks run in order.
 -- Assumes nothing.
 use Prim.Native.Nat.{ℕ}
 use mathlib.Core.Bool.{Bool, true, false}
@@ -57,6 +57,10 @@ tokens-left = 12
 -- Refusal 13: undo with no open request.
 abbrev pub nothing-open : ℕ
 nothing-open = 13
+
+-- Refusal 14: the deactivation of a context whose count is 0.
+abbrev pub already-off : ℕ
+already-off = 14
 
 -- The number that stands for a verdict in answers and listings: 0 for granted. Verdicts themselves are compared as values, because the
 -- type also has a Refused 0.

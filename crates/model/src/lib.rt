@@ -72,3 +72,6 @@ pub const TOKENS_LEFT: u8 = 12;
 
 // An undo with nothing open.
 pub const NOTHING_OPEN: u8 = 13;
+
+// A deactivation of a context that is not active.
+pub const ALREADY_OFF: u8 = 14;

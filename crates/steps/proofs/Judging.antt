@@ -6,14 +6,14 @@ use mathlib.Core.Path.{_≡_, refl, sym, ap, ap₂, subst, _∙_}
 use mathlib.Core.List.{List, [], _∷_}
 use native.Mathlib.Decide.{ℕ-discrete, decLt}
 use native.Mathlib.Omega.{arith}
-use borrow.Author.Tests.{lt-ltb, le-ltb, ltb-false, lt-leb, eq-eqb, ne-eqb, eqb-true}
+use borrow.Author.Tests.{lt-ltb, le-ltb, ltb-false, leb-false, eq-eqb, ne-eqb, eqb-true}
 use lib.Dec.{eqb, ltb, leb}
 use lib.ListN.{length, getD, set, replicate, length-replicate}
 use lib.Seq.{getD-set-same, getD-set-other}
 use Rattle.sets.specs.Sets.{upto}
 use Rattle.sets.proofs.Laws.{same-bool, contained, zero-holds, number-empty}
 use Rattle.model.specs.Sets.{Set, singleton, empty-set, bit, number, all-below}
-use Rattle.model.specs.Refusals.{refuse, first-refusal, step-limit-met, tokens-left}
+use Rattle.model.specs.Refusals.{refuse, first-refusal, no-such-context, already-off, step-limit-met, tokens-left}
 use Rattle.model.specs.Relations.{Net, size}
 use Rattle.model.specs.Firing.{Marking, Outcome, holds-token, is-empty, clear, fire-until-quiet, step-limit}
 use Rattle.model.specs.Machine.{Request, Counts, Effect, initial-marking, step-of, concluded, effect, without-firings}
@@ -21,7 +21,6 @@ use Rattle.model.specs.declared.Verdict.{Verdict}
 use Rattle.model.specs.declared.Verdict.the-variants.{Granted, Refused}
 use Rattle.model.proofs.Masks.{number-cong}
 use Rattle.model.proofs.Tests.{and-false, below-at, below-make}
-use Rattle.model.proofs.Effects.{Judged, outside, unfinished, unclear, completed, judged}
 use Rattle.net.specs.Tables.{Columns}
 use Rattle.walk.specs.Markings.{counts-of, marking, below, Shows, AtMost}
 use Rattle.steps.specs.Steps.{Describes, Starts, Outcomes, Ends, Judges}
@@ -130,23 +129,48 @@ clear-is net n few e spare m s sh =
     ∙ all-and n (is-empty (m .pr)) (is-empty (m .prNot))
     ∙ ap (λ (k : ℕ). all-below k (λ c. is-empty (m .pr) c && is-empty (m .prNot) c)) (sym e)
 
--- a request outside the net
-pub judges-outside : (net : Net) (counts : List ℕ) (r : Request) → size net ≤ r .context
-    → Judges (record { verdict = Refused 10; firings = 0 }) counts (effect net (counts-of counts) r)
-judges-outside net counts r h = go (judged net (counts-of counts) r)
+-- the verdict, by the two tests before the step
+abbrev pub verdict-by-request : (beyond off : Bool) → Verdict
+verdict-by-request beyond off = first-refusal (refuse no-such-context beyond ∷ refuse already-off off ∷ [])
+
+-- the verdict before the step of a request on these counts, in a net of n contexts
+abbrev pub verdict-at : (n : ℕ) (counts : List ℕ) → Request → Verdict
+verdict-at n counts r = verdict-by-request (leb n (r .context)) (not (r .on) && eqb (getD counts (r .context) 0) 0)
+
+-- where it is granted, the context is the net's
+pub inside-before : (n : ℕ) (counts : List ℕ) (r : Request) → Granted ≡ verdict-at n counts r → r .context < n
+inside-before n counts r e = leb-false n (r .context) (passed (leb n (r .context)) (not (r .on) && eqb (getD counts (r .context) 0) 0) e)
   where
-    go : Judged net (counts-of counts) r → Judges (record { verdict = Refused 10; firings = 0 }) counts (effect net (counts-of counts) r)
-    go (outside l e) = subst (Judges (record { verdict = Refused 10; firings = 0 }) counts) (sym e) (record { answer = refl; counts = refl })
-    go (unfinished l u e) = absurd (omega arith)
-    go (unclear l q k e) = absurd (omega arith)
-    go (completed l q e) = absurd (omega arith)
+    passed : (beyond off : Bool) → Granted ≡ verdict-by-request beyond off → beyond ≡ false
+    passed false off e = refl
+    passed true off e = let z : _≡_ {A = ℕ} 0 1 = cc in absurd (omega arith)
+
+-- what a request comes to, by that verdict
+abbrev effect-by : Net → List ℕ → Request → Verdict → Effect
+effect-by net counts r v =
+    elim v as (λ _. Effect) [
+      | Granted ↦ concluded (counts-of counts) (step-of net (counts-of counts) r)
+          (first-refusal (refuse step-limit-met (not (step-of net (counts-of counts) r .quiet)) ∷ refuse tokens-left (not (clear net (step-of net (counts-of counts) r .marking))) ∷ []))
+      | Refused j ↦ record { answer = without-firings (Refused j); counts = counts-of counts }
+    ]
+
+effect-at : (net : Net) (counts : List ℕ) (r : Request) {n : ℕ} {v : Verdict} → size net ≡ n → v ≡ verdict-at n counts r
+    → effect net (counts-of counts) r ≡ effect-by net counts r v
+unfolding effect
+effect-at net counts r e q = ap (effect-by net counts r) (ap (λ (k : ℕ). verdict-at k counts r) e ∙ sym q)
+
+-- a request that is refused before its step
+pub judges-before : (net : Net) (counts : List ℕ) (r : Request) {n k : ℕ} → size net ≡ n → Refused k ≡ verdict-at n counts r
+    → Judges (record { verdict = Refused k; firings = 0 }) counts (effect net (counts-of counts) r)
+judges-before net counts r {n} {k} e q =
+    subst (Judges (record { verdict = Refused k; firings = 0 }) counts) (sym (effect-at net counts r e q)) (record { answer = refl; counts = refl })
 
 -- the verdict, by the two tests when the step has ended
 abbrev pub verdict-by : (quiet clear : Bool) → Verdict
 verdict-by quiet clear = first-refusal (refuse step-limit-met (not quiet) ∷ refuse tokens-left (not clear) ∷ [])
 
--- a request within it: the step's end, and the words that it is told from
-module _ {net : Net} {n t : ℕ} {cols : Columns} {capacities counts temps counts′ temps′ : List ℕ} {e : Stepped} (r : Request) (h : r .context < n) (d : Describes net n t cols capacities)
+-- a request that makes a step: the step's end, and the words that it is told from
+module _ {net : Net} {n t : ℕ} {cols : Columns} {capacities counts temps counts′ temps′ : List ℕ} {e : Stepped} (r : Request) (h : Granted ≡ verdict-at n counts r) (d : Describes net n t cols capacities)
     (token : marking counts temps ≡ initial-marking (counts-of counts) r) (end : Ends n t cols capacities counts temps counts′ temps′ e) where
   abbrev o : Outcome
   o = step-of net (counts-of counts) r
@@ -160,14 +184,7 @@ module _ {net : Net} {n t : ℕ} {cols : Columns} {capacities counts temps count
       (clear-is net n (end .stands .few) (d .contexts) (below capacities counts′) (marking counts′ temps′) (e .marked) (end .stands .shows) ∙ ap (clear net) (ended .marking))
 
   effect-is : effect net (counts-of counts) r ≡ concluded (counts-of counts) o (verdict-by (o .quiet) (clear net (o .marking)))
-  unfolding effect
-  effect-is =
-      let b : leb (size net) (r .context) ≡ false = lt-leb (size net) (r .context) (omega (arith, d .contexts)) in
-      ap (λ (x : Bool).
-      elim (elim x as (λ _. Verdict) [ true ↦ Refused 10 | false ↦ Granted ]) as (λ _. Effect) [
-        | Granted ↦ concluded (counts-of counts) (step-of net (counts-of counts) r) (verdict-by (step-of net (counts-of counts) r .quiet) (clear net (step-of net (counts-of counts) r .marking)))
-        | Refused j ↦ record { answer = without-firings (Refused j); counts = counts-of counts }
-      ]) b
+  effect-is = effect-at net counts r (d .contexts) h
 
   -- the effect, where this is the verdict
   effect-with : (v : Verdict) → v ≡ verdict-by (e .quiet) (eqb (e .marked .pr) 0 && eqb (e .marked .prNot) 0) → effect net (counts-of counts) r ≡ concluded (counts-of counts) o v

@@ -1,4 +1,4 @@
-// The step of a request on a composed net: its firings one by one, how it ends, and the verdict on it.
+// A request on a composed net: the verdict before its step, the step's firings one by one, how it ends, and the verdict on it.
 mod requests;
 mod step;
 

@@ -1,10 +1,11 @@
-// A request: its step, and the verdict on how it ends.
+// A request: the verdict before its step, the step, and the verdict on how it ends.
 ghost use mathlib.Core.Path.{_≡_};
 ghost use mathlib.Core.Bool.{_&&_, not};
 ghost use mathlib.Core.List.{List, [], _∷_};
 ghost use Prim.Native.Nat.{ℕ, _<_, _≤_};
-ghost use lib.Dec.{eqb};
-ghost use Rattle.model.specs.Refusals.{refuse, first-refusal, step-limit-met, tokens-left};
+ghost use lib.Dec.{eqb, leb};
+ghost use lib.ListN.{getD};
+ghost use Rattle.model.specs.Refusals.{refuse, first-refusal, no-such-context, already-off, step-limit-met, tokens-left};
 ghost use Rattle.model.specs.Relations.{Net};
 ghost use Rattle.model.specs.Machine.{effect, initial-marking};
 ghost use Rattle.model.specs.declared.Verdict.the-variants.{Refused};
@@ -13,6 +14,7 @@ ghost use Rattle.walk.specs.Markings.{counts-of, marking};
 ghost use Rattle.steps.specs.Steps.{Describes, Judges};
 use crate::step;
 use crate::step::Stepped;
+use model::ALREADY_OFF;
 use model::Answer;
 use model::NO_SUCH_CONTEXT;
 use model::STEP_LIMIT_MET;
@@ -48,6 +50,21 @@ fn refused(number: u8, firings: usize) -> Answer
         verdict: Verdict::Refused(number),
         firings,
     }
+}
+
+// The verdict on a request before anything fires: a context of the net, and an active one where it is to be deactivated.
+fn verdict_before(n: usize, counts: &[u8; 48], on: bool, c: usize) -> Verdict
+    requires { ⌜ n ≤ 48 ⌝ }
+    ensures { λ r. ⌜ r ≡ first-refusal (refuse no-such-context (leb n c) ∷ refuse already-off (not on && eqb (getD (now (counts .entry)) c 0) 0) ∷ []) ⌝ }
+{
+    if n <= c {
+        return Verdict::Refused(NO_SUCH_CONTEXT);
+    }
+    let off = !on & (counts[c] == 0);
+    if off {
+        return Verdict::Refused(ALREADY_OFF);
+    }
+    Verdict::Granted
 }
 
 // The verdict on a step that has ended: granted where it is quiet and no temporary place holds a token.
@@ -87,8 +104,8 @@ pub fn judge<'a>(
     requires { ⌜ (n ≤ 48) × (t ≤ 192) ⌝ }
     ensures { λ r. ⌜ ((net : Net) → Describes net n t (columns (now (priority .entry)) (now (takesContext .entry)) (now (takesPr .entry)) (now (takesNot .entry)) (now (givesContext .entry)) (now (givesPr .entry)) (now (givesNot .entry)) (now (inhibContext .entry)) (now (inhibPr .entry))) (now (capacities .entry)) → Judges r (now (counts .exit)) (effect net (counts-of (now (counts .entry))) (record { on = on; context = c }))) ⌝ }
 {
-    if n <= c {
-        return refused(NO_SUCH_CONTEXT, 0);
+    if let Verdict::Refused(k) = verdict_before(n, counts, on, c) {
+        return refused(k, 0);
     }
     let before = copied(counts);
     let mut temps = token(on, c);

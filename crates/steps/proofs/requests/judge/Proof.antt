@@ -1,5 +1,6 @@
--- The step begins in the marking of the request, and the verdict's two tests are the model's; a refusal puts the counts back.
-use Prim.Native.Nat.{ℕ}
+-- The two tests before the step are the model's. The step begins in the marking of the request, and the verdict's two tests are the
+-- model's; a refusal puts the counts back.
+use Prim.Native.Nat.{ℕ, _<_}
 use mathlib.Core.List.{List}
 use mathlib.Core.Path.{_≡_, sym, ap, subst, _∙_}
 use native.Mathlib.Omega.{arith}
@@ -9,9 +10,10 @@ use Rattle.net.specs.Tables.{Columns, columns}
 use Rattle.model.specs.Machine.{Request, effect}
 use Rattle.model.specs.Claims.{at-rest}
 use Rattle.model.specs.declared.Answer.{Answer}
+use Rattle.model.specs.declared.Verdict.the-variants.{Granted}
 use Rattle.walk.specs.Markings.{counts-of, below, Shows}
 use Rattle.steps.specs.Steps.{Starts, Judges}
-use Rattle.steps.proofs.Judging.{starts, judges-outside, judges-granted, judges-refused}
+use Rattle.steps.proofs.Judging.{starts, verdict-at, inside-before, judges-before, judges-granted, judges-refused}
 use Rattle.steps.proofs.requests.judge.Statement.{statement}
 use Rattle.steps.proofs.requests.judge.Tie as tie
 
@@ -23,41 +25,67 @@ cols b =
 abbrev request : tie.Start → Request
 request b = record { on = b .args .on; context = b .args .c }
 
+verdict-before-requires : tie.Need-verdict-before-requires
+verdict-before-requires c κs = search needs
+
+enum-known-k : tie.Need-enum-known-k
+enum-known-k c = search needs
+
 refused-requires : tie.Need-refused-requires
 refused-requires c κs = search needs
 
 returns : tie.Need-returns
 returns c net d =
-    let t = c .before in
-    let b = t .before in
+    let k = c .before .before in
+    let v = k .before .before in
+    let b = v .before .before in
     subst (λ (x : Answer). Judges x (b .args .counts .now) (effect net (counts-of (b .args .counts .now)) (request b))) (sym (c .refused .ensures))
-    (judges-outside net (b .args .counts .now) (request b) (omega (arith, d .contexts, t .if1 .taken)))
+    (judges-before net (b .args .counts .now) (request b) (d .contexts) (sym (k .k .given .1) ∙ v .verdict-before .ensures))
+
+enum-told : tie.Need-enum-told
+enum-told c = search needs
+
+-- the request is granted its step
+granted : (c : tie.After-enum-told) →
+    let b = c .before .before .before .before in
+    Granted ≡ verdict-at (b .args .n) (b .args .counts .now) (request b)
+granted c = sym (c .enum-told .given .1) ∙ c .before .before .verdict-before .ensures
+
+-- so its context is the net's
+inside : (c : tie.After-enum-told) →
+    let b = c .before .before .before .before in
+    b .args .c < b .args .n
+inside c =
+    let b = c .before .before .before .before in
+    inside-before (b .args .n) (b .args .counts .now) (request b) (granted c)
 
 copied-requires : tie.Need-copied-requires
 copied-requires c κs = search needs
 
 token-requires : tie.Need-token-requires
-token-requires c κs = search needs
+token-requires c κs = omega (arith, inside (c .before .before), c .before .before .before .before .before .before .pre .0)
 
 at-rest-requires : tie.Need-at-rest-requires
 at-rest-requires c κs = search needs
 
 asking-requires : tie.Need-asking-requires
-asking-requires c κs = search needs
+asking-requires c κs =
+    let e = c .before .before .before .before .before in
+    omega (arith, inside e, e .before .before .before .before .pre .0)
 
 -- the step can begin
 ready-to-run : (k : tie.After-asking) →
-    let b = k .before .before .before .before .before .before .before in
+    let b = k .before .before .before .before .before .before .before .before .before .before in
     Starts (b .args .n) (b .args .t) (b .args .capacities .now) (b .args .counts .now) (k .before .before .before .token .result) (k .asking .result)
 ready-to-run k =
     let tk = k .before .before .before in
     let cp = tk .before in
     let l = cp .before .before in
-    let b = l .before in
+    let b = l .before .before .before .before in
     let a = b .args in
     let size : length (cp .copied .result) ≡ 48 = omega (arith, cp .copied .ok) in
     starts (request b) (b .pre .0) (b .pre .1) (ap length (sym (cp .copied .ensures)) ∙ size) (omega (arith, tk .token .ok)) (tk .token .ensures (a .counts .now))
-    (k .asking .ensures (a .n) (below (a .capacities .now) (a .counts .now)) (counts-of (a .counts .now)) (l .if1 .left)
+    (k .asking .ensures (a .n) (below (a .capacities .now) (a .counts .now)) (counts-of (a .counts .now)) (inside l)
     (subst (λ (x : List ℕ). Shows (a .n) (below (a .capacities .now) x) (at-rest (counts-of x)) (k .before .at-rest .result)) (cp .copied .ensures) (k .before .at-rest .ensures)))
 
 run-from-requires : tie.Need-run-from-requires
@@ -66,8 +94,8 @@ run-from-requires c κs = ready-to-run (c .before .before)
 verdict-on-requires : tie.Need-verdict-on-requires
 verdict-on-requires c κs = search needs
 
-enum-told : tie.Need-enum-told
-enum-told c = search needs
+enum-told-2 : tie.Need-enum-told-2
+enum-told-2 c = search needs
 
 enum-known-verdict : tie.Need-enum-known-verdict
 enum-known-verdict c = search needs
@@ -81,8 +109,8 @@ returns-2 c net d =
     let ru = v .before in
     let tk = ru .before .before .before .before .before .before in
     let l = tk .before .before .before in
-    let b = l .before in
-    judges-granted (request b) (l .if1 .left) d (tk .token .ensures (b .args .counts .now)) (ru .run-from .ensures) (sym (c .enum-told .given .1) ∙ v .verdict-on .ensures)
+    let b = l .before .before .before .before in
+    judges-granted (request b) (granted l) d (tk .token .ensures (b .args .counts .now)) (ru .run-from .ensures) (sym (c .enum-told2 .given .1) ∙ v .verdict-on .ensures)
 
 returns-3 : tie.Need-returns-3
 returns-3 c net d =
@@ -91,25 +119,28 @@ returns-3 c net d =
     let ru = v .before in
     let tk = ru .before .before .before .before .before .before in
     let l = tk .before .before .before in
-    let b = l .before in
+    let b = l .before .before .before .before in
     let e = effect net (counts-of (b .args .counts .now)) (request b) in
     subst (λ (x : List ℕ). Judges (c .refused2 .result) x e) (sym (tk .before .copied .ensures))
     (subst (λ (x : Answer). Judges x (b .args .counts .now) e) (sym (c .refused2 .ensures))
-    (judges-refused (request b) (l .if1 .left) d (tk .token .ensures (b .args .counts .now)) (ru .run-from .ensures) (sym (w .verdict .given .1) ∙ v .verdict-on .ensures)))
+    (judges-refused (request b) (granted l) d (tk .token .ensures (b .args .counts .now)) (ru .run-from .ensures) (sym (w .verdict .given .1) ∙ v .verdict-on .ensures)))
 
 pub judge-spec : {M : Type 1} → statement M
 judge-spec =
     tie.close
     (tie.spec
+    verdict-before-requires
+    enum-known-k
     refused-requires
     returns
+    enum-told
     copied-requires
     token-requires
     at-rest-requires
     asking-requires
     run-from-requires
     verdict-on-requires
-    enum-told
+    enum-told-2
     enum-known-verdict
     refused-requires-2
     returns-2
