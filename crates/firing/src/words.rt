@@ -1,9 +1,9 @@
 // The words of a marking, and how they change at one context.
 ghost use mathlib.Core.Path.{_≡_};
-ghost use Prim.Native.Nat.{ℕ, _+_, _<_, _≤_};
+ghost use Prim.Native.Nat.{ℕ, _+_, _*_, _<_, _≤_};
 ghost use lib.ListN.{getD};
 ghost use Rattle.sets.specs.Sets.{members};
-ghost use Rattle.model.specs.Sets.{Set, number};
+ghost use Rattle.model.specs.Sets.{Set, bit, number};
 ghost use Rattle.model.specs.Machine.{Counts, initial-marking};
 ghost use Rattle.model.specs.Claims.{at-rest};
 ghost use Rattle.walk.specs.Markings.{counts-of, below, Shows, assigned, Recounted};
@@ -42,23 +42,35 @@ pub fn byte(bytes: &[u8; 48], c: usize) -> u8
     bytes[c]
 }
 
-// The words of these counts, with every temporary place empty. The caller has at most 48 contexts.
+// A word with one digit more below its others: 1 where the test holds. The caller's word has room.
+fn doubled(word: u64, test: bool) -> u64
+    requires { ⌜ word < 9223372036854775808 ⌝ }
+    ensures { λ r. ⌜ r ≡ bit test + 2 * word ⌝ }
+{
+    if test { 2 * word + 1 } else { 2 * word }
+}
+
+// The words of these counts, with every temporary place empty, digit by digit from the highest. The caller has at most 48 contexts.
 pub fn at_rest(n: usize, capacities: &[u8; 48], counts: &[u8; 48]) -> Marked
     requires { ⌜ n ≤ 48 ⌝ }
     ensures { λ r. ⌜ Shows n (below (now (capacities .entry)) (now (counts .entry))) (at-rest (counts-of (now (counts .entry)))) r ⌝ }
 {
-    let mut marks = Marked {
-        context: 0,
+    let mut context = 0;
+    let mut spare = 0;
+    let mut c = n;
+    while 0 < c {
+        c -= 1;
+        let count = byte(counts, c);
+        let capacity = byte(capacities, c);
+        context = doubled(context, 0 < count);
+        spare = doubled(spare, count < capacity);
+    }
+    Marked {
+        context,
         pr: 0,
         prNot: 0,
-        spare: 0,
-    };
-    let mut c = 0;
-    while c < n {
-        marks = recount(marks, c, byte(counts, c), byte(capacities, c));
-        c += 1;
+        spare,
     }
-    marks
 }
 
 // The words with the token that a request puts on a temporary place of c.

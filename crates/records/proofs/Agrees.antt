@@ -1,4 +1,4 @@
--- Bytes compared with a part of a list, one behind the other; and six bytes compared as numbers with a word's set.
+-- Bytes compared with a part of a list, one behind the other; and twelve bytes compared as numbers with two words' sets.
 -- Assumes nothing.
 use Prim.Native.Nat.{ℕ, zero, suc, _+_, _*_, _^_, _/_, _%_, _<_, _≤_}
 use native.Mathlib.Nat.{add-zero, add-suc, suc-inj, div-one}
@@ -12,12 +12,12 @@ use lib.ListN.{length, getD, take, drop, length-append, length-drop, drop-of-len
 use lib.Seq.{take-add, take-all, drop-drop, drop-cons, length-take-le}
 use Rattle.model.specs.Sets.{Set, Each, nil, cons, IsByte, from, number, range, concat-map, equal-lists}
 use Rattle.model.specs.Image.{from-bytes, set-bytes}
-use Rattle.model.proofs.Tests.{and-left, and-right, and-both, each-take, each-drop}
+use Rattle.model.proofs.Tests.{and-left, and-right, and-both, each-append, each-take, each-drop}
 use Rattle.model.proofs.Masks.{number-below, number-cong}
 use Rattle.sets.specs.Sets.{members, byte-of}
 use Rattle.sets.proofs.Laws.{same-bool, number-members, number-split, number-part}
 use Rattle.records.specs.Bytes.{agrees, word-bytes}
-use Rattle.records.proofs.Words.{bytes-each, length-word}
+use Rattle.records.proofs.Words.{bytes-each, length-pair}
 
 and-assoc : (a b c : Bool) → (a && b && c) ≡ (a && (b && c))
 and-assoc true b c = refl
@@ -119,32 +119,70 @@ word-bytes-are w =
     let b : (i : ℕ) → IsByte (byte-of i (members w)) = λ i. number-below 8 (from (8 * i) (members w)) in
     cons (b 0) (cons (b 1) (cons (b 2) (cons (b 3) (cons (b 4) (cons (b 5) nil)))))
 
--- six bytes of a list are a set's where their low four and their high two make the numbers of the word's
-module _ (l : List ℕ) (at w : ℕ) (known : (i : ℕ) → getD l i 0 < 256) (room : at + 6 ≤ length l) (fits : w < 2 ^ 64) where
-  parts-same : (q p x : ℕ) → q < 4294967296 → p < 65536 → (eqb q (x % 4294967296) && eqb p (x / 4294967296 % 65536)) ≡ eqb (q + 4294967296 * p) (x % 281474976710656)
-  parts-same q p x h k =
+-- four bytes and what stands behind them
+from-four : (xs ys : List ℕ) → length xs ≡ 4 → from-bytes (xs ++ ys) ≡ from-bytes xs + 4294967296 * from-bytes ys
+from-four [] ys e = absurd (omega arith)
+from-four (a ∷ []) ys e = absurd (omega arith)
+from-four (a ∷ b ∷ []) ys e = absurd (omega arith)
+from-four (a ∷ b ∷ c ∷ []) ys e = absurd (omega arith)
+from-four (a ∷ b ∷ c ∷ d ∷ []) ys e = omega arith
+from-four (a ∷ b ∷ c ∷ d ∷ f ∷ xs) ys e = absurd (omega arith)
+
+-- the number of four bytes of a list
+abbrev four-at : List ℕ → ℕ → ℕ
+four-at l at = from-bytes (take 4 (drop at l))
+
+four-more : (l : List ℕ) (at k : ℕ) → at + 4 ≤ length l → from-bytes (take (4 + k) (drop at l)) ≡ four-at l at + 4294967296 * from-bytes (take k (drop (at + 4) l))
+four-more l at k h =
+    let d = length-drop at l in
+    ap from-bytes (take-add 4 k (drop at l))
+    ∙ from-four (take 4 (drop at l)) (take k (drop 4 (drop at l))) (length-take-le 4 (drop at l) (omega arith))
+    ∙ ap (λ (z : List ℕ). four-at l at + 4294967296 * from-bytes (take k z)) (drop-drop 4 at l)
+
+-- it is made of the bytes one by one
+pub four-bytes : (l : List ℕ) (at : ℕ) → at + 4 ≤ length l
+    → getD l at 0 + 256 * getD l (at + 1) 0 + 65536 * (getD l (at + 2) 0 + 256 * getD l (at + 3) 0) ≡ from-bytes (take 4 (drop at l))
+four-bytes l at h =
+    let z : getD l (at + 0) 0 ≡ getD l at 0 = ap (λ (n : ℕ). getD l n 0) (add-zero at) in
+    let m = ap from-bytes (bytes-at l at 4 h) in
+    omega (arith, z, m)
+
+-- twelve bytes of a list are those of two sets where their low eight and their high four make the numbers of the words'
+module _ (l : List ℕ) (at f g : ℕ) (known : (i : ℕ) → getD l i 0 < 256) (room : at + 12 ≤ length l) (f-fits : f < 2 ^ 64) (g-fits : g < 2 ^ 64) where
+  parts-same : (q p : ℕ) → q < 18446744073709551616 → p < 4294967296
+      → (eqb q (f % 281474976710656 + 281474976710656 * (g % 65536)) && eqb p (g / 65536 % 4294967296))
+      ≡ eqb (q + 18446744073709551616 * p) (f % 281474976710656 + 281474976710656 * (g % 281474976710656))
+  parts-same q p h k =
+      let a : ℕ = f % 281474976710656 + 281474976710656 * (g % 65536) in
+      let b : ℕ = g / 65536 % 4294967296 in
       same-bool _ _
       (λ e.
-      let s = eqb-true q (x % 4294967296) (and-left (eqb q (x % 4294967296)) (eqb p (x / 4294967296 % 65536)) e) in
-      let t = eqb-true p (x / 4294967296 % 65536) (and-right (eqb q (x % 4294967296)) (eqb p (x / 4294967296 % 65536)) e) in
-      eq-eqb (q + 4294967296 * p) (x % 281474976710656) (omega arith))
+      let s = eqb-true q a (and-left (eqb q a) (eqb p b) e) in
+      let t = eqb-true p b (and-right (eqb q a) (eqb p b) e) in
+      eq-eqb (q + 18446744073709551616 * p) (f % 281474976710656 + 281474976710656 * (g % 281474976710656)) (omega arith))
       (λ e.
-      let s = eqb-true (q + 4294967296 * p) (x % 281474976710656) e in
-      and-both (eq-eqb q (x % 4294967296) (omega arith)) (eq-eqb p (x / 4294967296 % 65536) (omega arith)))
+      let s = eqb-true (q + 18446744073709551616 * p) (f % 281474976710656 + 281474976710656 * (g % 281474976710656)) e in
+      and-both (eq-eqb q a (omega arith)) (eq-eqb p b (omega arith)))
 
-  pub word-agrees : (q p : ℕ) → q ≡ getD l at 0 + 256 * getD l (at + 1) 0 + 65536 * (getD l (at + 2) 0 + 256 * getD l (at + 3) 0) → q < 4294967296
-      → p ≡ getD l (at + 4) 0 + 256 * getD l (at + 5) 0 → p < 65536
-      → (eqb q (w % 4294967296) && eqb p (w / 4294967296 % 65536)) ≡ agrees l at (word-bytes w)
+  pair-number : from-bytes (word-bytes f ++ word-bytes g) ≡ f % 281474976710656 + 281474976710656 * (g % 281474976710656)
+  unfolding word-bytes set-bytes
+  pair-number = omega (arith, word-number f f-fits, word-number g g-fits)
+
+  pub pair-agrees : (q p : ℕ) → q ≡ from-bytes (take 4 (drop at l)) + 4294967296 * from-bytes (take 4 (drop (at + 4) l)) → q < 18446744073709551616
+      → p ≡ from-bytes (take 4 (drop (at + 8) l)) → p < 4294967296
+      → (eqb q (f % 281474976710656 + 281474976710656 * (g % 65536)) && eqb p (g / 65536 % 4294967296)) ≡ agrees l at (word-bytes f ++ word-bytes g)
   unfolding agrees
-  word-agrees q p q-is h p-is k =
+  pair-agrees q p q-is h p-is k =
       let d = length-drop at l in
-      let n = length-take-le 6 (drop at l) (omega arith) in
-      let z : getD l (at + 0) 0 ≡ getD l at 0 = ap (λ (n : ℕ). getD l n 0) (add-zero at) in
-      let m : from-bytes (take 6 (drop at l)) ≡ q + 4294967296 * p = ap from-bytes (bytes-at l at 6 room) ∙ omega (arith, z, q-is, p-is) in
-      parts-same q p w h k
-      ∙ ap₂ eqb (sym m) (sym (word-number w fits))
-      ∙ numbers-same (each-take 6 (each-drop at (bytes-each l known))) (word-bytes-are w) (n ∙ sym (length-word w))
-      ∙ ap (λ (k : ℕ). equal-lists (take k (drop at l)) (word-bytes w)) (sym (length-word w))
+      let n = length-take-le 12 (drop at l) (omega arith) in
+      let e : at + 4 + 4 ≡ at + 8 = omega arith in
+      let last : four-at l (at + 4 + 4) ≡ four-at l (at + 8) = ap (four-at l) e in
+      let m : from-bytes (take 12 (drop at l)) ≡ q + 18446744073709551616 * p =
+      four-more l at 8 (omega arith) ∙ omega (arith, four-more l (at + 4) 4 (omega arith), last, q-is, p-is) in
+      parts-same q p h k
+      ∙ ap₂ eqb (sym m) (sym pair-number)
+      ∙ numbers-same (each-take 12 (each-drop at (bytes-each l known))) (each-append (word-bytes-are f) (word-bytes-are g)) (n ∙ sym (length-pair f g))
+      ∙ ap (λ (k : ℕ). equal-lists (take k (drop at l)) (word-bytes f ++ word-bytes g)) (sym (length-pair f g))
 
 -- lists of bytes, compared one after the other: what is left of them has room and decides
 pub record Rest {A : Type 0} (f : A → List ℕ) (xs : List A) (l : List ℕ) (start at i : ℕ) : Type 0 where

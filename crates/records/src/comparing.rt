@@ -1,19 +1,18 @@
-// Bytes of an image, compared in place with those of a composed net, a set at a time.
+// Bytes of an image, compared in place with those of a composed net, two sets at a time.
 ghost use mathlib.Core.Path.{_≡_};
 ghost use mathlib.Core.List.{List, _++_};
 ghost use Prim.Native.Nat.{ℕ, _+_, _*_, _<_, _≤_};
-ghost use lib.ListN.{length};
+ghost use lib.ListN.{length, take, drop};
 ghost use Rattle.model.specs.Sets.{concat-map, range, equal-lists};
 ghost use Rattle.model.specs.Relations.{Relation};
 ghost use Rattle.model.specs.Transitions.{Transition, extra-transitions, transitions-of};
-ghost use Rattle.model.specs.Image.{record-bytes};
+ghost use Rattle.model.specs.Image.{from-bytes, record-bytes};
 ghost use Rattle.relations.specs.Reading.{relation, relations-in, Checked, Composable};
 ghost use Rattle.relations.specs.Links.{Linked};
 ghost use Rattle.transitions.specs.Arcs.{Holds};
 ghost use Rattle.records.specs.Bytes.{agrees, word-bytes, context-bytes, extra-bytes};
 use layout::RECORD_SIZE;
 use layout::RELATION_SIZE;
-use layout::SET_SIZE;
 
 // The number of two bytes, the low one first.
 fn pair(low: u8, high: u8) -> u64
@@ -30,25 +29,27 @@ fn quad(low: u64, high: u64) -> u64
     low + 65536 * high
 }
 
-// Whether the six bytes from an offset on are those of a set: the low four as one number, then the high two.
-fn same_set(bytes: &[u8], at: usize, set: u64) -> bool
-    requires { ⌜ at + 6 ≤ length (now bytes) ⌝ }
-    ensures { λ r. ⌜ r ≡ agrees (now (bytes .entry)) at (word-bytes set) ⌝ }
+// The number of the four bytes from an offset on, the low one first.
+fn four(bytes: &[u8], at: usize) -> u64
+    requires { ⌜ at + 4 ≤ length (now bytes) ⌝ }
+    ensures { λ r. ⌜ (r ≡ from-bytes (take 4 (drop at (now (bytes .entry))))) × (r < 4294967296) ⌝ }
 {
-    let low = quad(
+    quad(
         pair(bytes[at], bytes[at + 1]),
         pair(bytes[at + 2], bytes[at + 3]),
-    );
-    let high = pair(bytes[at + 4], bytes[at + 5]);
-    (low == set % 4294967296) & (high == set / 4294967296 % 65536)
+    )
 }
 
-// Whether the bytes from an offset on are those of two sets, one behind the other.
+// Whether the twelve bytes from an offset on are those of two sets, one behind the other. They are compared as a number of eight bytes and
+// one of four, so that no byte that is read is left out of a comparison: the compiler then makes one read of each.
 fn same_pair(bytes: &[u8], at: usize, first: u64, second: u64) -> bool
     requires { ⌜ at + 12 ≤ length (now bytes) ⌝ }
     ensures { λ r. ⌜ r ≡ agrees (now (bytes .entry)) at (word-bytes first ++ word-bytes second) ⌝ }
 {
-    same_set(bytes, at, first) & same_set(bytes, at + SET_SIZE, second)
+    let low = four(bytes, at) + 4294967296 * four(bytes, at + 4);
+    let high = four(bytes, at + 8);
+    (low == first % 281474976710656 + 281474976710656 * (second % 65536))
+        & (high == second / 65536 % 4294967296)
 }
 
 // Whether the bytes from an offset on are a transition's record. A difference does not end the test: most records are the same, and so the parts

@@ -1,29 +1,34 @@
--- The words show the contexts before c.
-use Prim.Native.Nat.{ℕ, _-_, _≤_}
-use mathlib.Core.Path.{_≡_, refl, ap, _∙_}
+-- The words have the digits of the contexts from c on.
+use Prim.Native.Nat.{ℕ, _+_, _-_, _*_, _≤_}
+use mathlib.Core.Path.{_≡_, ap, ap₂, _∙_}
 use native.Mathlib.Omega.{arith}
 use lib.Dec.{ltb}
-use Rattle.sets.specs.Sets.{members, upto}
-use Rattle.sets.proofs.Laws.{upto-none}
-use Rattle.model.specs.Sets.{number}
+use Rattle.model.specs.Sets.{Set, bit, from, number}
 use Rattle.model.specs.Firing.{holds-token}
-use Rattle.walk.specs.Markings.{counts-of, below, assigned}
-use Rattle.firing.proofs.Renewal.{shown-next, upto-zeros}
+use Rattle.walk.specs.Markings.{counts-of, below}
+use Rattle.firing.proofs.Renewal.{digits-none, digits-more, digits-all, digits-low, upto-zeros}
 use Rattle.firing.proofs.words.at_rest.Statement.{statement}
 use Rattle.firing.proofs.words.at_rest.Tie as tie
 
 abbrev Inv-loop : tie.InvT-loop
-Inv-loop n capacities counts s₀ c₀ s c =
-    (c ≤ n) × (n ≤ 48) × (s .context ≡ number 64 (upto c (holds-token (counts-of counts)))) × (s .spare ≡ number 64 (upto c (below capacities counts)))
-    × (s .pr ≡ 0) × (s .prNot ≡ 0)
+Inv-loop n capacities counts context₀ spare₀ c₀ context spare c =
+    (c ≤ n) × (n ≤ 48) × (context ≡ number (n - c) (from c (holds-token (counts-of counts)))) × (spare ≡ number (n - c) (from c (below capacities counts)))
 
 abbrev μ-loop : tie.MeasureT-loop
-μ-loop n capacities counts s₀ c₀ s c = n - c
+μ-loop n capacities counts context₀ spare₀ c₀ context spare c = c
+
+-- the two sets
+abbrev active : tie.Start Inv-loop μ-loop → Set
+active s = holds-token (counts-of (s .args .counts .now))
+
+abbrev spare : tie.Start Inv-loop μ-loop → Set
+spare s = below (s .args .capacities .now) (s .args .counts .now)
 
 loop-holds : tie.Need-loop-holds Inv-loop μ-loop
-loop-holds c =
-    let a = c .args in
-    (omega arith, c .pre, upto-none 64 (holds-token (counts-of (a .counts .now))), upto-none 64 (below (a .capacities .now) (a .counts .now)), refl, refl)
+loop-holds c = (omega arith, c .pre, digits-none (c .args .n) (active c), digits-none (c .args .n) (spare c))
+
+sub-c : tie.Need-sub-c Inv-loop μ-loop
+sub-c c = omega arith
 
 byte-requires : tie.Need-byte-requires Inv-loop μ-loop
 byte-requires c κs = omega arith
@@ -31,41 +36,48 @@ byte-requires c κs = omega arith
 byte-requires-2 : tie.Need-byte-requires-2 Inv-loop μ-loop
 byte-requires-2 c κs = omega arith
 
-recount-requires : tie.Need-recount-requires Inv-loop μ-loop
-recount-requires c κs = omega arith
+doubled-requires : tie.Need-doubled-requires Inv-loop μ-loop
+doubled-requires c κs =
+    let at = c .before .before .before in
+    digits-low (at .before .args .n) (at .loop .c) (active (at .before)) (at .loop .inv .1) (at .loop .inv .2)
 
-add-c : tie.Need-add-c Inv-loop μ-loop
-add-c c = omega arith
+doubled-requires-2 : tie.Need-doubled-requires-2 Inv-loop μ-loop
+doubled-requires-2 c κs =
+    let at = c .before .before .before .before in
+    digits-low (at .before .args .n) (at .loop .c) (spare (at .before)) (at .loop .inv .1) (at .loop .inv .3)
 
 loop-less : tie.Need-loop-less Inv-loop μ-loop
 loop-less c = omega arith
 
 loop-again : tie.Need-loop-again Inv-loop μ-loop
 loop-again c =
-    let b = c .before in
-    let l = b .before .before .before .loop in
-    let a = b .before .before .before .before .args in
-    let r = c .recount .ensures in (
+    let d = c .before in
+    let b2 = d .before in
+    let b1 = b2 .before in
+    let at = b1 .before .before in
+    let l = at .loop in
+    let s = at .before in
+    let n = s .args .n in (
       omega arith,
       l .inv .1,
-      shown-next 64 (l .c) (holds-token (counts-of (a .counts .now))) (l .inv .2)
-          (r .context ∙ (λ i. number 64 (assigned (members (l .marks .context)) (l .c) (ltb 0 (b .before .byte .ensures i))))),
-      shown-next 64 (l .c) (below (a .capacities .now) (a .counts .now)) (l .inv .3)
-          (r .spare ∙ (λ i. number 64 (assigned (members (l .marks .spare)) (l .c) (ltb (b .before .byte .ensures i) (b .byte2 .ensures i))))),
-      r .pr ∙ l .inv .4,
-      r .prNot ∙ l .inv .5,
+      digits-more n (l .c) (l .c - 1) (active s) (omega arith) (l .inv .0) (l .inv .2)
+          (d .doubled .ensures ∙ ap (λ (x : ℕ). bit (ltb 0 x) + 2 * l .context) (b1 .byte .ensures)),
+      digits-more n (l .c) (l .c - 1) (spare s) (omega arith) (l .inv .0) (l .inv .3)
+          (c .doubled2 .ensures ∙ ap₂ (λ (x y : ℕ). bit (ltb x y) + 2 * l .spare) (b1 .byte .ensures) (b2 .byte2 .ensures)),
     )
 
 returns : tie.Need-returns Inv-loop μ-loop
 returns c =
-    let l = c .before .loop in
-    let a = c .before .before .args in
-    let e : l .c ≡ a .n = omega arith in
+    let at = c .before in
+    let l = at .loop in
+    let s = at .before in
+    let n = s .args .n in
+    let e : l .c ≡ 0 = omega arith in
     record {
-      context = l .inv .2 ∙ ap (λ (k : ℕ). number 64 (upto k (holds-token (counts-of (a .counts .now))))) e;
-      pr = l .inv .4 ∙ upto-zeros 64 (a .n);
-      prNot = l .inv .5 ∙ upto-zeros 64 (a .n);
-      spare = l .inv .3 ∙ ap (λ (k : ℕ). number 64 (upto k (below (a .capacities .now) (a .counts .now)))) e;
+      context = digits-all n (active s) (omega (arith, l .inv .1)) (l .inv .2 ∙ ap (λ (k : ℕ). number (n - k) (from k (active s))) e);
+      pr = upto-zeros 64 n;
+      prNot = upto-zeros 64 n;
+      spare = digits-all n (spare s) (omega (arith, l .inv .1)) (l .inv .3 ∙ ap (λ (k : ℕ). number (n - k) (from k (spare s))) e);
     }
 
 pub at-rest-spec : {M : Type 1} → statement M
@@ -75,10 +87,11 @@ at-rest-spec =
     Inv-loop
     μ-loop
     loop-holds
+    sub-c
     byte-requires
     byte-requires-2
-    recount-requires
-    add-c
+    doubled-requires
+    doubled-requires-2
     loop-less
     loop-again
     returns)
