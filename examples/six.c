@@ -35,17 +35,19 @@ static const uint8_t calls[] = {
     BOARD_DEACTIVATE, LOGGING, 0,
 };
 
+#define CALLS (sizeof calls / BOARD_CALL_SIZE)
+
 /* What the calls are to give: an answer each, then the counts and the totals. */
 static const uint8_t expected[] = {
-    0, 1, 0,
-    0, 1, 0,
-    BOARD_TOKENS_LEFT, 2, 0,
-    0, 2, 0,
-    0, 0, 0,
-    0, 0, 0,
-    0, 0, 0,
-    BOARD_NOTHING_OPEN, 0, 0,
-    BOARD_ALREADY_OFF, 0, 0,
+    0, 1, 0, 0, 0,
+    0, 1, 0, 0, 0,
+    BOARD_TOKENS_LEFT, 2, 0, 0, 0,
+    0, 2, 0, 1, 0,
+    0, 0, 0, 0, 0,
+    0, 0, 0, 0, 0,
+    0, 0, 0, 0, 0,
+    BOARD_NOTHING_OPEN, 0, 0, 0, 0,
+    BOARD_ALREADY_OFF, 0, 0, 0, 0,
     1, 0, 0, 0, 0, 0,
     3, 0, 0, 0,
     3, 0, 0, 0,
@@ -54,7 +56,7 @@ static const uint8_t expected[] = {
 
 static uint8_t image[BOARD_LONGEST_IMAGE];
 static uint8_t list[BOARD_LONGEST_LIST];
-static uint8_t report[sizeof calls + BOARD_LONGEST_STATE];
+static uint8_t report[CALLS * BOARD_ANSWER_SIZE + BOARD_LONGEST_STATE];
 
 static int unexpected(const char *what, uint64_t value)
 {
@@ -98,7 +100,7 @@ static void print_call(const uint8_t *call, const uint8_t *answer, const uint8_t
         printf(": granted");
     else
         printf(": refused %u", answer[0]);
-    printf(", firings %u", pair(answer + 1));
+    printf(", firings %u, forced %u", pair(answer + 1), pair(answer + 3));
     for (c = 0; c < CONTEXTS; c++)
         if (counts[c] > 0)
             printf("%s %s %u", active++ == 0 ? ";" : ",", names[c], counts[c]);
@@ -109,7 +111,7 @@ int main(void)
 {
     uint64_t length, written;
     uint32_t refusal;
-    size_t done;
+    size_t done, answered;
 
     length = board_compose(capacities, sizeof capacities, relations, sizeof relations, image, sizeof image);
     if (length != 813)
@@ -131,12 +133,13 @@ int main(void)
     print_list();
 
     /* The counts follow the last answer. To see them after each call, the list is run up to that call. */
-    printf("calls: %u\n", (unsigned)(sizeof calls / BOARD_CALL_SIZE));
-    for (done = BOARD_CALL_SIZE; done <= sizeof calls; done += BOARD_CALL_SIZE) {
-        written = board_run(image, length, calls, done, report, sizeof report);
-        if (written != done + CONTEXTS + 12 || memcmp(report, expected, done) != 0)
+    printf("calls: %u\n", (unsigned)CALLS);
+    for (done = 1; done <= CALLS; done++) {
+        answered = BOARD_ANSWER_SIZE * done;
+        written = board_run(image, length, calls, BOARD_CALL_SIZE * done, report, sizeof report);
+        if (written != answered + CONTEXTS + 12 || memcmp(report, expected, answered) != 0)
             return unexpected("the answers", written);
-        print_call(calls + done - BOARD_CALL_SIZE, report + done - BOARD_ANSWER_SIZE, report + done);
+        print_call(calls + BOARD_CALL_SIZE * (done - 1), report + answered - BOARD_ANSWER_SIZE, report + answered);
     }
     if (written != sizeof expected || memcmp(report, expected, sizeof expected) != 0)
         return unexpected("the counts or totals", written);

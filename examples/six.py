@@ -12,6 +12,7 @@ import sys
 EXCLUDES, CAUSES, IMPLIES, REQUIRES = 1, 2, 3, 4
 ACTIVATE, DEACTIVATE, UNDO, SETTLE = 0, 1, 2, 3
 WRONG_RECORDS, TOKENS_LEFT, NOTHING_OPEN, ALREADY_OFF = 9, 12, 13, 14
+ANSWER_SIZE = 5
 SHORTEST_IMAGE, LONGEST_IMAGE, LONGEST_LIST, LONGEST_STATE = 107, 9752, 338, 60
 
 NAMES = ["DUMPED", "RESET", "POWERED", "SOAK", "BATTERYOUT", "LOGGING"]
@@ -38,17 +39,17 @@ CALLS = [
     (UNDO, 0),
     (DEACTIVATE, LOGGING),
 ]
-# What the calls are to give: 0 or the refusal, the firings, and the counts after the call.
+# What the calls are to give: 0 or the refusal, the firings, the forced ones, and the counts after the call.
 EXPECTED = [
-    (0, 1, [1, 0, 0, 0, 0, 0]),
-    (0, 1, [1, 0, 0, 0, 1, 0]),
-    (TOKENS_LEFT, 2, [1, 0, 0, 0, 1, 0]),
-    (0, 2, [0, 0, 0, 0, 0, 0]),
-    (0, 0, [1, 0, 0, 0, 1, 0]),
-    (0, 0, [1, 0, 0, 0, 0, 0]),
-    (0, 0, [1, 0, 0, 0, 0, 0]),
-    (NOTHING_OPEN, 0, [1, 0, 0, 0, 0, 0]),
-    (ALREADY_OFF, 0, [1, 0, 0, 0, 0, 0]),
+    (0, 1, 0, [1, 0, 0, 0, 0, 0]),
+    (0, 1, 0, [1, 0, 0, 0, 1, 0]),
+    (TOKENS_LEFT, 2, 0, [1, 0, 0, 0, 1, 0]),
+    (0, 2, 1, [0, 0, 0, 0, 0, 0]),
+    (0, 0, 0, [1, 0, 0, 0, 1, 0]),
+    (0, 0, 0, [1, 0, 0, 0, 0, 0]),
+    (0, 0, 0, [1, 0, 0, 0, 0, 0]),
+    (NOTHING_OPEN, 0, 0, [1, 0, 0, 0, 0, 0]),
+    (ALREADY_OFF, 0, 0, [1, 0, 0, 0, 0, 0]),
 ]
 TOTALS = [3, 3, 2]
 
@@ -101,14 +102,16 @@ class Board:
     def run(self, image, calls):
         """The answers to a list of calls, the counts after it, and the totals."""
         given = b"".join(bytes([call]) + context.to_bytes(2, "little") for call, context in calls)
-        out = ctypes.create_string_buffer(len(given) + LONGEST_STATE)
+        answered = ANSWER_SIZE * len(calls)
+        out = ctypes.create_string_buffer(answered + LONGEST_STATE)
         written = self.c.board_run(image, len(image), given, len(given), out, len(out))
         if written == 0:
             raise ValueError("not a list of calls")
         report = out.raw[:written]
-        answers = [(report[i], number(report[i + 1 : i + 3])) for i in range(0, len(given), 3)]
+        starts = range(0, answered, ANSWER_SIZE)
+        answers = [(report[i], number(report[i + 1 : i + 3]), number(report[i + 3 : i + 5])) for i in starts]
         totals = [number(report[i : i + 4]) for i in range(written - 12, written, 4)]
-        return answers, list(report[len(given) : written - 12]), totals
+        return answers, list(report[answered : written - 12]), totals
 
 
 def number(low_first):
@@ -120,13 +123,13 @@ def expect(what, value, expected):
         sys.exit(f"unexpected: {what}, {value}")
 
 
-def print_call(call, context, refusal, firings, counts):
+def print_call(call, context, refusal, firings, forced, counts):
     asked = VERBS[call]
     if call in (ACTIVATE, DEACTIVATE):
         asked += f" {NAMES[context]}"
     verdict = f"refused {refusal}" if refusal else "granted"
     active = ", ".join(f"{NAMES[c]} {count}" for c, count in enumerate(counts) if count > 0)
-    print(f"  {asked}: {verdict}, firings {firings}; {active or 'none active'}")
+    print(f"  {asked}: {verdict}, firings {firings}, forced {forced}; {active or 'none active'}")
 
 
 def main():
@@ -154,8 +157,8 @@ def main():
     totals = []
     for done in range(1, len(CALLS) + 1):
         answers, counts, totals = board.run(image, CALLS[:done])
-        expect("the answers", answers, [(refusal, firings) for refusal, firings, _ in EXPECTED[:done]])
-        expect("the counts", counts, EXPECTED[done - 1][2])
+        expect("the answers", answers, [expected[:3] for expected in EXPECTED[:done]])
+        expect("the counts", counts, EXPECTED[done - 1][-1])
         print_call(*CALLS[done - 1], *answers[-1], counts)
     expect("the totals", totals, TOTALS)
     print("totals: granted {}, refused {}, undone {}".format(*totals))

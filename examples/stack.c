@@ -13,12 +13,12 @@
 typedef void (*function)(void);
 
 static unsigned char stack[STACK_SIZE] __attribute__((aligned(16)));
-static uint8_t image[BOARD_LONGEST_IMAGE], output[CALLS * BOARD_CALL_SIZE + BOARD_LONGEST_IMAGE];
+static uint8_t image[BOARD_LONGEST_IMAGE], output[CALLS * BOARD_ANSWER_SIZE + BOARD_LONGEST_STATE];
 static uint8_t capacities[BOARD_MOST_CONTEXTS], relations[BOARD_MOST_RELATIONS * BOARD_RELATION_SIZE], calls[CALLS * BOARD_CALL_SIZE];
 static size_t n, r, length;
 
 static size_t most_compose, most_check, most_list, most_run;
-static int seen[BOARD_NOTHING_OPEN + 1];
+static int seen[BOARD_ALREADY_OFF + 1];
 
 /* Calls f on its own stack with up to three arrays. */
 static uint64_t on_stack(function f, const void *a, size_t a_len, const void *b, size_t b_len, void *c, size_t c_len)
@@ -106,9 +106,9 @@ static int run(void)
     uint64_t written = measure(&most_run, (function)board_run, image, length, calls, sizeof calls, output, sizeof output);
     size_t i;
 
-    for (i = 0; i < sizeof calls; i += BOARD_ANSWER_SIZE)
-        seen[output[i]] = 1;
-    return written == sizeof calls + n + 12;
+    for (i = 0; i < CALLS; i++)
+        seen[output[BOARD_ANSWER_SIZE * i]] = 1;
+    return written == CALLS * BOARD_ANSWER_SIZE + n + 12;
 }
 
 /* Whether all functions do what they are to do on the net. */
@@ -142,7 +142,8 @@ int main(void)
     ring_net();
     ok = ok && measure_net();
     ok = ok && measure_refused();
-    ok = ok && seen[0] && seen[BOARD_NO_SUCH_CONTEXT] && seen[BOARD_STEP_LIMIT_MET] && seen[BOARD_TOKENS_LEFT] && seen[BOARD_NOTHING_OPEN];
+    ok = ok && seen[0] && seen[BOARD_NO_SUCH_CONTEXT] && seen[BOARD_STEP_LIMIT_MET] && seen[BOARD_TOKENS_LEFT] && seen[BOARD_NOTHING_OPEN]
+        && seen[BOARD_ALREADY_OFF];
     if (!ok) {
         fprintf(stderr, "stack: unexpected answers\n");
         return 1;

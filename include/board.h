@@ -27,8 +27,9 @@
 #define BOARD_UNDO 2   /* takes back the last open request */
 #define BOARD_SETTLE 3 /* what is open can no longer be undone */
 
-/* An answer is three bytes: 0 or the refusal, then the firings in two bytes, low byte first. */
-#define BOARD_ANSWER_SIZE 3
+/* An answer is five bytes: 0 or the refusal, then the firings, then the forced ones among them, in two bytes each, low byte first. A forced
+   firing lowers a context because one that it implies or requires is not active. A refused request tells both numbers as well. */
+#define BOARD_ANSWER_SIZE 5
 
 /* The refusals. Of several reasons the first that applies is given. */
 #define BOARD_SHORT_IMAGE 1       /* the image is too short to have a trailer */
@@ -74,9 +75,9 @@ uint64_t board_list(const uint8_t *image, size_t image_len, uint8_t *out, size_t
 
 /* Makes a list of calls, one behind the other, on the net freshly loaded from an image. A refused image is the net without contexts, n = 0:
    a request there meets refusal 10, undo 13. Writes to the start of out an answer for each call, then the n counts, a byte each, then the
-   totals of granted, refused and undone in 4 bytes each, low byte first. Returns the number of bytes written, calls_len + n + 12. Returns 0
-   with nothing written where the calls are not whole triples, one begins with a byte above 3, or out is too short; the refusal of a single
-   call is no reason. calls_len + BOARD_LONGEST_STATE bytes are always room enough. */
+   totals of granted, refused and undone in 4 bytes each, low byte first. Returns the number of bytes written, 5 for each call + n + 12.
+   Returns 0 with nothing written where the calls are not whole triples, one begins with a byte above 3, or out is too short; the refusal of
+   a single call is no reason. 5 * (calls_len / 3) + BOARD_LONGEST_STATE bytes are always room enough. */
 uint64_t board_run(const uint8_t *image, size_t image_len, const uint8_t *calls, size_t calls_len, uint8_t *out, size_t out_len);
 
 #ifdef __cplusplus

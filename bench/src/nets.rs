@@ -13,8 +13,8 @@ pub const MAX_RELATIONS: usize = 96;
 pub const IMAGE_ROOM: usize = 9752;
 /// The longest list: two sizes, capacities, relations.
 pub const LIST_ROOM: usize = 2 + MAX_CONTEXTS + 3 * MAX_RELATIONS;
-/// A verdict and the firings.
-pub const ANSWER_LEN: usize = 3;
+/// A verdict, the firings, the forced firings.
+pub const ANSWER_LEN: usize = 5;
 pub const CALL_LEN: usize = 3;
 
 /// What composing is given.
@@ -67,9 +67,14 @@ pub fn call_bytes(calls: &[Call]) -> Vec<u8> {
     calls.iter().flat_map(|call| call.to_bytes()).collect()
 }
 
+/// Bytes of the answers to a list of calls.
+pub fn answers_len(calls: &[u8]) -> usize {
+    calls.len() / CALL_LEN * ANSWER_LEN
+}
+
 /// Room for the answers, every count and the totals.
 pub fn answer_room(calls: &[u8]) -> usize {
-    calls.len() / CALL_LEN * ANSWER_LEN + MAX_CONTEXTS + 12
+    answers_len(calls) + MAX_CONTEXTS + 12
 }
 
 pub fn six_conditions() -> Description {

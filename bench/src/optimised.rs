@@ -12,8 +12,8 @@ use machine::Machine;
 
 /// One byte of kind, two of context number.
 const CALL_LEN: usize = 3;
-/// One byte of verdict, two of firings.
-const ANSWER_LEN: usize = 3;
+/// One byte of verdict, two of firings, two of forced firings.
+const ANSWER_LEN: usize = 5;
 /// Three totals of four bytes.
 const TOTALS_LEN: usize = 12;
 const LAST_CALL_KIND: u8 = 3;
@@ -93,14 +93,14 @@ fn answer_all<const SPARSE: bool>(machine: &mut Machine<SPARSE>, calls: &[u8], a
     let answers = answers.chunks_exact_mut(ANSWER_LEN);
     for (call, answer) in calls.chunks_exact(CALL_LEN).zip(answers) {
         let context = usize::from(u16::from_le_bytes([call[1], call[2]]));
-        let (verdict, firings) = match call[0] {
+        let (verdict, fired) = match call[0] {
             0 => machine.activate(context),
             1 => machine.deactivate(context),
             2 => machine.undo(),
             _ => machine.settle(),
         };
-        let [low, high] = firings.to_le_bytes();
-        answer.copy_from_slice(&[verdict, low, high]);
+        answer[0] = verdict;
+        answer[1..].copy_from_slice(&fired.to_le_bytes());
     }
 }
 

@@ -59,6 +59,7 @@ mod expected {
             let answer = machine.call(call);
             bytes.push(answer.verdict);
             bytes.extend(answer.firings.to_le_bytes());
+            bytes.extend(answer.forced.to_le_bytes());
         }
         bytes.extend(machine.counts());
         let totals = machine.totals();
@@ -127,9 +128,18 @@ fn compare_at_full_room(job: &Job, place: &str) -> u64 {
     compare(job, job.room(), place)
 }
 
-/// The answers of a list of calls, compared, as verdict and firings; then the
-/// counts.
-fn answers(net: &Description, calls: &[Call]) -> (Vec<(u8, u16)>, Vec<u8>) {
+/// Verdict, firings, forced firings.
+type Answer = (u8, u16, u16);
+
+fn answers_in(bytes: &[u8]) -> impl Iterator<Item = Answer> + '_ {
+    bytes.chunks_exact(nets::ANSWER_LEN).map(|answer| {
+        let pair = |at| u16::from_le_bytes([answer[at], answer[at + 1]]);
+        (answer[0], pair(1), pair(3))
+    })
+}
+
+/// The answers of a list of calls, compared; then the counts.
+fn answers(net: &Description, calls: &[Call]) -> (Vec<Answer>, Vec<u8>) {
     let image = net.image();
     let calls = nets::call_bytes(calls);
     let job = Job::Run {
@@ -139,15 +149,12 @@ fn answers(net: &Description, calls: &[Call]) -> (Vec<(u8, u16)>, Vec<u8>) {
     let length = compare_at_full_room(&job, "answers") as usize;
     let mut out = vec![0; length];
     assert_eq!(optimised::run(&image, &calls, &mut out), length as u64);
-    let (answers, rest) = out.split_at(calls.len());
-    let answers = answers
-        .chunks_exact(3)
-        .map(|a| (a[0], u16::from_le_bytes([a[1], a[2]])))
-        .collect();
-    (answers, rest[..net.capacities.len()].to_vec())
+    let (answers, rest) = out.split_at(nets::answers_len(&calls));
+    let counts = rest[..net.capacities.len()].to_vec();
+    (answers_in(answers).collect(), counts)
 }
 
-fn six(calls: &[i32]) -> (Vec<(u8, u16)>, Vec<u8>) {
+fn six(calls: &[i32]) -> (Vec<Answer>, Vec<u8>) {
     answers(&nets::six_conditions(), &signed(calls))
 }
 
@@ -225,10 +232,11 @@ fn the_full_board_is_full() {
         job.perform(&bench::side::OPTIMISED, out)
     });
     let capacities = nets::full_board().capacities;
-    let counts = &out[calls.len()..][..48];
+    let (answers, rest) = out.split_at(nets::answers_len(calls));
+    let counts = &rest[..48];
     assert_eq!(counts[..47], capacities[..47]);
     assert_eq!(counts[47], capacities[47] - 1);
-    let verdicts: BTreeSet<u8> = out[..calls.len()].iter().step_by(3).copied().collect();
+    let verdicts: BTreeSet<u8> = answers_in(answers).map(|(verdict, ..)| verdict).collect();
     assert_eq!(verdicts, BTreeSet::from([0, 12]));
 }
 
@@ -237,6 +245,7 @@ fn random_jobs_meet_every_value() {
     let mut composing = BTreeSet::new();
     let mut loading = BTreeSet::new();
     let mut answering = BTreeSet::new();
+    let mut forcing = BTreeSet::new();
     for seed in 0..4_000 {
         for (job, room) in verify::random_jobs(&mut Random::new(seed)) {
             let (value, out) = match &job {
@@ -252,7 +261,12 @@ fn random_jobs_meet_every_value() {
                 Job::Compose { .. } => drop(composing.insert(value.min(100))),
                 Job::Check { .. } => drop(loading.insert(value)),
                 Job::Run { calls, .. } if value > 0 => {
-                    answering.extend(out[..calls.len()].iter().step_by(3).copied())
+                    for (verdict, _, forced) in answers_in(&out[..nets::answers_len(calls)]) {
+                        answering.insert(verdict);
+                        if forced > 0 {
+                            forcing.insert(verdict);
+                        }
+                    }
                 }
                 _ => (),
             }
@@ -261,6 +275,7 @@ fn random_jobs_meet_every_value() {
     assert_eq!(composing, BTreeSet::from([3, 5, 6, 7, 8, 100]));
     assert_eq!(loading, BTreeSet::from([0, 1, 2, 3, 4, 5, 6, 7, 9]));
     assert_eq!(answering, BTreeSet::from([0, 10, 11, 12, 13, 14]));
+    assert_eq!(forcing, BTreeSet::from([0, 12]));
 }
 
 fn check_value(image: &[u8]) -> u64 {
@@ -348,31 +363,55 @@ fn refusals_keep_their_order() {
 fn the_papers_cases() {
     let last = |calls: &[i32]| *six(calls).0.last().expect("an answer");
     let counts = |calls: &[i32]| six(calls).1;
-    assert_eq!(last(&[1]), (12, 0));
-    assert_eq!(six(&[0, 0]).0, [(0, 1), (12, 0)]);
-    assert_eq!(last(&[3]), (0, 3));
+    assert_eq!(last(&[1]), (12, 0, 0));
+    assert_eq!(six(&[0, 0]).0, [(0, 1, 0), (12, 0, 0)]);
+    assert_eq!(last(&[3]), (0, 3, 0));
     assert_eq!(counts(&[3]), [0, 0, 1, 1, 0, 1]);
-    assert_eq!(last(&[3, off(2)]), (0, 3));
+    assert_eq!(last(&[3, off(2)]), (0, 3, 1));
     assert_eq!(counts(&[3, off(2)]), [0; 6]);
-    assert_eq!(last(&[3, off(5), off(3)]), (0, 3));
+    assert_eq!(last(&[3, off(5), off(3)]), (0, 3, 0));
     assert_eq!(counts(&[3, off(5), off(3)]), [0; 6]);
-    assert_eq!(last(&[3, 3, off(2)]), (0, 1));
+    assert_eq!(last(&[3, 3, off(2)]), (0, 1, 0));
     assert_eq!(counts(&[3, 3, off(2)])[3], 2);
-    assert_eq!(last(&[3, 3, off(2), off(2)]), (0, 5));
+    assert_eq!(last(&[3, 3, off(2), off(2)]), (0, 5, 2));
     assert_eq!(counts(&[3, 3, off(2), off(2)]), [0; 6]);
-    assert_eq!(last(&[0, 4, 3]), (12, 2));
+    assert_eq!(last(&[0, 4, 3]), (12, 2, 0));
     assert_eq!(counts(&[0, 4, 3]), [1, 0, 0, 0, 1, 0]);
-    assert_eq!(last(&[off(5)]), (14, 0));
-    assert_eq!(last(&[off(2)]), (14, 0));
-    assert_eq!(last(&[3, off(5), off(5)]), (14, 0));
-    assert_eq!(last(&[off(6)]), (10, 0));
+    assert_eq!(last(&[off(5)]), (14, 0, 0));
+    assert_eq!(last(&[off(2)]), (14, 0, 0));
+    assert_eq!(last(&[3, off(5), off(5)]), (14, 0, 0));
+    assert_eq!(last(&[off(6)]), (10, 0, 0));
+}
+
+#[test]
+fn refused_steps_tell_what_they_forced() {
+    let net = translated(&examples::forced_in_vain([1; 3]));
+    let (answers, counts) = answers(&net, &signed(&[1, off(2)]));
+    assert_eq!(answers, [(0, 3, 0), (12, 3, 2)]);
+    assert_eq!(counts, [1; 3]);
+}
+
+/// One firing below the limit, at it and above it.
+#[test]
+fn forced_firings_count_up_to_the_limit() {
+    let last = |more: usize| {
+        let mut calls = vec![Call::Activate(0)];
+        calls.extend(vec![Call::Activate(1); 89]);
+        calls.extend(vec![Call::Activate(2); more]);
+        calls.push(Call::Deactivate(0));
+        let (answers, _) = answers(&translated(&examples::held_up()), &calls);
+        *answers.last().expect("an answer")
+    };
+    assert_eq!(last(0), (0, 4095, 4094));
+    assert_eq!(last(1), (0, 4096, 4095));
+    assert_eq!(last(2), (11, 4096, 4095));
 }
 
 #[test]
 fn rings_meet_the_limit() {
     let ring = |n| answers(&nets::ring_of_implications(n), &[Call::Activate(3)]).0;
-    assert_eq!(ring(16), [(12, 4080)]);
-    assert_eq!(ring(17), [(11, 4096)]);
+    assert_eq!(ring(16), [(12, 4080, 0)]);
+    assert_eq!(ring(17), [(11, 4096, 0)]);
 }
 
 /// A step that is quiet after exactly 4,096 firings is granted.
@@ -382,9 +421,9 @@ fn the_limit_itself_is_not_refused() {
         let net = translated(&examples::doubling(leaves));
         answers(&net, &[Call::Activate(0)]).0
     };
-    assert_eq!(doubling(0), [(0, 4095)]);
-    assert_eq!(doubling(1), [(0, 4096)]);
-    assert_eq!(doubling(2), [(11, 4096)]);
+    assert_eq!(doubling(0), [(0, 4095, 0)]);
+    assert_eq!(doubling(1), [(0, 4096, 0)]);
+    assert_eq!(doubling(2), [(11, 4096, 0)]);
 }
 
 #[test]
@@ -392,9 +431,9 @@ fn undo_reaches_back_32_requests() {
     let mut calls = vec![Call::Activate(0); 33];
     calls.extend([Call::Undo; 33]);
     let (answers, counts) = answers(&Description::new(&[255], &[]), &calls);
-    assert!(answers[..33].iter().all(|&answer| answer == (0, 1)));
-    assert!(answers[33..65].iter().all(|&answer| answer == (0, 0)));
-    assert_eq!(answers[65], (13, 0));
+    assert!(answers[..33].iter().all(|&answer| answer == (0, 1, 0)));
+    assert!(answers[33..65].iter().all(|&answer| answer == (0, 0, 0)));
+    assert_eq!(answers[65], (13, 0, 0));
     assert_eq!(counts, [1]);
 }
 
@@ -402,17 +441,17 @@ fn undo_reaches_back_32_requests() {
 fn a_refused_image_is_the_empty_net() {
     let calls = nets::call_bytes(&[Call::Activate(0), Call::Undo, Call::Settle]);
     let mut out = [UNTOUCHED; 32];
-    assert_eq!(optimised::run(&[], &calls, &mut out), 21);
-    assert_eq!(out[..9], [10, 0, 0, 13, 0, 0, 0, 0, 0]);
-    assert_eq!(out[9..21], [0, 0, 0, 0, 2, 0, 0, 0, 0, 0, 0, 0]);
-    assert_eq!(out[21..], [UNTOUCHED; 11]);
+    assert_eq!(optimised::run(&[], &calls, &mut out), 27);
+    assert_eq!(out[..15], [10, 0, 0, 0, 0, 13, 0, 0, 0, 0, 0, 0, 0, 0, 0]);
+    assert_eq!(out[15..27], [0, 0, 0, 0, 2, 0, 0, 0, 0, 0, 0, 0]);
+    assert_eq!(out[27..], [UNTOUCHED; 5]);
 }
 
 #[test]
 fn calls_that_are_none_write_nothing() {
     let image = nets::six_conditions().image();
     let whole = nets::call_bytes(&[Call::Activate(0), Call::Undo]);
-    let needed = 6 + 6 + 12;
+    let needed = 2 * 5 + 6 + 12;
     for room in 0..=needed {
         let (value, out) = outcome(room, |out| optimised::run(&image, &whole, out));
         let enough = room == needed;

@@ -30,7 +30,11 @@ pub fn run(image: &[u8], mut input: impl BufRead, mut output: impl Write) -> io:
 
 fn answer(machine: &mut Machine, call: Call, output: &mut impl Write) -> io::Result<()> {
     let answer = machine.call(call);
-    write!(output, " {} {}", answer.verdict, answer.firings)?;
+    write!(
+        output,
+        " {} {} {}",
+        answer.verdict, answer.firings, answer.forced
+    )?;
     for (context, &count) in machine.counts().iter().enumerate() {
         if count > 0 {
             write!(output, " {context}:{count}")?;

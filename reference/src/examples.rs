@@ -87,3 +87,21 @@ pub fn doubling(leaves: usize) -> Description {
     relations.extend((0..leaves as u8).map(|leaf| [CAUSES, 0, 45 + leaf]));
     Description::new(&vec![255; 45 + leaves], &relations)
 }
+
+/// Context 1 brings 46 others with it, and each of these requires context 0:
+/// deactivating that one forces every token of theirs off.
+pub fn held_up() -> Description {
+    let relations: Vec<[u8; 3]> = (2..48)
+        .flat_map(|c| [[CAUSES, 1, c], [REQUIRES, c, 0]])
+        .collect();
+    Description::new(&[255; 48], &relations)
+}
+
+/// Deactivating context 2 forces 0 off and then 1, which asks 0 off in vain:
+/// refused after forced firings.
+pub fn forced_in_vain(capacities: [u8; 3]) -> Description {
+    Description::new(
+        &capacities,
+        &[[REQUIRES, 0, 2], [IMPLIES, 1, 2], [IMPLIES, 1, 0]],
+    )
+}

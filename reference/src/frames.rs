@@ -1,7 +1,8 @@
 //! The frames that machines are compared on.
 
 use crate::examples::{
-    chain, doubling, ring, single, six_conditions, Description, CAUSES, EXCLUDES, IMPLIES, REQUIRES,
+    chain, doubling, forced_in_vain, held_up, ring, single, six_conditions, Description, CAUSES,
+    EXCLUDES, IMPLIES, REQUIRES,
 };
 use crate::image::{RECORD_LEN, TRAILER_LEN};
 use crate::machine::Call;
@@ -32,6 +33,7 @@ pub fn fixed() -> Vec<Frame> {
     empty_nets(&mut frames);
     nets_that_are_not_ours(&mut frames);
     arcs_asked_for_twice(&mut frames);
+    forced_firings(&mut frames);
     damaged_images(&mut frames);
     frames
 }
@@ -223,6 +225,23 @@ fn arcs_asked_for_twice(frames: &mut Vec<Frame>) {
             }
         }
     }
+}
+
+/// Forced firings in refused steps, and more of them than one byte counts.
+fn forced_firings(frames: &mut Vec<Frame>) {
+    let calls = "+1 -2 -0 u -1 u +1 -2 -2 u -1";
+    add(frames, &forced_in_vain([2; 3]), calls);
+    // Just below, at and just above 4,096 firings.
+    let calls = [
+        script("+0"),
+        vec![Call::Activate(1); 89],
+        script("-0 u +2 -0 u +2 -0 u"),
+    ]
+    .concat();
+    frames.push(Frame {
+        verbose: false,
+        ..verbose(held_up(), calls)
+    });
 }
 
 fn damaged_images(frames: &mut Vec<Frame>) {

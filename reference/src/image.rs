@@ -131,10 +131,12 @@ fn records_of(net: &Net) -> Vec<u8> {
     net.transitions().iter().flat_map(record).collect()
 }
 
-/// Nothing is ever inhibited by a Pr(¬c), so that set has no bytes.
+/// Nothing is ever inhibited by a Pr(¬c), so that set has no bytes. The arcs
+/// tell a forced transition, so the image does not say it again.
 fn record(transition: &Transition) -> Vec<u8> {
     let Transition {
         priority,
+        forced: _,
         takes,
         gives,
         inhibited_by,

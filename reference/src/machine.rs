@@ -23,9 +23,27 @@ pub struct Answer {
     pub verdict: u8,
     /// Firings made, also in a refused step.
     pub firings: u16,
+    /// Those of them that were forced.
+    pub forced: u16,
 }
 
 impl Answer {
+    fn after_step(verdict: u8, step: &Step) -> Answer {
+        Answer {
+            verdict,
+            firings: step.firings,
+            forced: step.forced,
+        }
+    }
+
+    fn without_step(verdict: u8) -> Answer {
+        Answer {
+            verdict,
+            firings: 0,
+            forced: 0,
+        }
+    }
+
     pub fn is_granted(&self) -> bool {
         self.verdict == refusal::GRANTED
     }
@@ -83,11 +101,13 @@ impl Marking {
         marked.pr == 0 && marked.pr_not == 0
     }
 
-    fn fire(&mut self, transition: &Transition) {
+    /// Reports whether the firing was a forced one.
+    fn fire(&mut self, transition: &Transition) -> bool {
         let Transition { takes, gives, .. } = transition;
         move_tokens(&mut self.context, takes.context, gives.context);
         move_tokens(&mut self.pr, takes.pr, gives.pr);
         move_tokens(&mut self.pr_not, takes.pr_not, gives.pr_not);
+        transition.forced
     }
 }
 
@@ -129,27 +149,28 @@ fn is_ready(transition: &Transition, marked: &PlaceSet, below_capacity: ContextS
 
 struct Step {
     firings: u16,
+    forced: u16,
     /// None is enabled any more.
     quiet: bool,
 }
 
 /// Fires enabled transitions until none is enabled or the limit is reached.
 fn run_step(net: &Net, marking: &mut Marking) -> Step {
-    let mut firings = 0;
+    let mut step = Step {
+        firings: 0,
+        forced: 0,
+        quiet: false,
+    };
     while let Some(transition) = next_firing(net, marking) {
-        if firings == STEP_LIMIT {
-            return Step {
-                firings,
-                quiet: false,
-            };
+        if step.firings == STEP_LIMIT {
+            return step;
         }
-        marking.fire(transition);
-        firings += 1;
+        let forced = marking.fire(transition);
+        step.firings += 1;
+        step.forced += u16::from(forced);
     }
-    Step {
-        firings,
-        quiet: true,
-    }
+    step.quiet = true;
+    step
 }
 
 pub struct Machine {
@@ -195,7 +216,7 @@ impl Machine {
     pub fn call(&mut self, call: Call) -> Answer {
         match call {
             Call::Activate(c) => self.request(c, |marking| marking.pr[c] += 1),
-            Call::Deactivate(c) if self.count(c) == Ok(0) => self.refuse(refusal::ALREADY_OFF, 0),
+            Call::Deactivate(c) if self.count(c) == Ok(0) => self.refuse(refusal::ALREADY_OFF),
             Call::Deactivate(c) => self.request(c, |marking| marking.pr_not[c] += 1),
             Call::Undo => self.undo(),
             Call::Settle => self.settle(),
@@ -205,23 +226,20 @@ impl Machine {
     /// Runs the step on a copy of the marking, so a rollback drops the copy.
     fn request(&mut self, context: usize, ask: impl FnOnce(&mut Marking)) -> Answer {
         if context >= self.net.contexts() {
-            return self.refuse(refusal::CONTEXT_NUMBER, 0);
+            return self.refuse(refusal::CONTEXT_NUMBER);
         }
         let mut marking = Marking::at_rest(&self.counts);
         ask(&mut marking);
         let step = run_step(&self.net, &mut marking);
         if !step.quiet {
-            return self.refuse(refusal::STEP_LIMIT, step.firings);
+            return self.refuse_step(refusal::STEP_LIMIT, &step);
         }
         if !marking.temporary_places_are_empty() {
-            return self.refuse(refusal::TEMPORARY_TOKEN, step.firings);
+            return self.refuse_step(refusal::TEMPORARY_TOKEN, &step);
         }
         self.commit(marking.counts());
         raise(&mut self.totals.granted);
-        Answer {
-            verdict: refusal::GRANTED,
-            firings: step.firings,
-        }
+        Answer::after_step(refusal::GRANTED, &step)
     }
 
     fn commit(&mut self, counts: Vec<u8>) {
@@ -232,31 +250,31 @@ impl Machine {
         self.open.push_back(before);
     }
 
-    fn refuse(&mut self, verdict: u8, firings: u16) -> Answer {
+    /// Refuses a call before anything fires.
+    fn refuse(&mut self, verdict: u8) -> Answer {
         raise(&mut self.totals.refused);
-        Answer { verdict, firings }
+        Answer::without_step(verdict)
+    }
+
+    fn refuse_step(&mut self, verdict: u8, step: &Step) -> Answer {
+        raise(&mut self.totals.refused);
+        Answer::after_step(verdict, step)
     }
 
     fn undo(&mut self) -> Answer {
         match self.open.pop_back() {
-            None => self.refuse(refusal::NOTHING_TO_UNDO, 0),
+            None => self.refuse(refusal::NOTHING_TO_UNDO),
             Some(before) => {
                 self.counts = before;
                 raise(&mut self.totals.undone);
-                Answer {
-                    verdict: refusal::GRANTED,
-                    firings: 0,
-                }
+                Answer::without_step(refusal::GRANTED)
             }
         }
     }
 
     fn settle(&mut self) -> Answer {
         self.open.clear();
-        Answer {
-            verdict: refusal::GRANTED,
-            firings: 0,
-        }
+        Answer::without_step(refusal::GRANTED)
     }
 }
 

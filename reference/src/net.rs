@@ -113,6 +113,8 @@ impl PlaceSet {
 #[derive(Clone, Copy, PartialEq, Eq, Debug)]
 pub struct Transition {
     pub priority: u8,
+    /// Pulls a context down without a request.
+    pub forced: bool,
     pub takes: PlaceSet,
     pub gives: PlaceSet,
     pub inhibited_by: PlaceSet,
@@ -122,6 +124,7 @@ impl Transition {
     fn without_arcs(priority: u8) -> Transition {
         Transition {
             priority,
+            forced: false,
             takes: PlaceSet::default(),
             gives: PlaceSet::default(),
             inhibited_by: PlaceSet::default(),
@@ -261,11 +264,12 @@ fn extra(relation: &Relation, relations: &[Relation]) -> Option<Transition> {
 /// Pulls `a` down like deac(a), without a request. A follower that inhibits
 /// the transition is off already when it fires.
 fn forced_deactivation(a: usize, inhibited_by: PlaceSet, relations: &[Relation]) -> Transition {
-    let mut forced = Transition::without_arcs(PRIORITY_HIGH);
-    forced.takes.context = only(a);
-    forced.gives.pr_not = followers(a, relations) & !inhibited_by.context;
-    forced.inhibited_by = inhibited_by;
-    forced
+    let mut pull = Transition::without_arcs(PRIORITY_HIGH);
+    pull.forced = true;
+    pull.takes.context = only(a);
+    pull.gives.pr_not = followers(a, relations) & !inhibited_by.context;
+    pull.inhibited_by = inhibited_by;
+    pull
 }
 
 /// Swallows the wish to deactivate a context that is off.

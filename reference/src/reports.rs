@@ -136,15 +136,16 @@ fn take_call(running: &mut Hash, answer: Answer, machine: &Machine) {
     let totals = machine.totals();
     running.take(&[answer.verdict]);
     running.take(&answer.firings.to_le_bytes());
+    running.take(&answer.forced.to_le_bytes());
     running.take(machine.counts());
     for total in [totals.granted, totals.refused, totals.undone] {
         running.take(&total.to_le_bytes());
     }
 }
 
-/// `V F c0 c1 ...`.
+/// Verdict, firings, forced ones, then the counts.
 fn call_line(answer: Answer, machine: &Machine) -> String {
-    let mut text = format!("{} {}", answer.verdict, answer.firings);
+    let mut text = format!("{} {} {}", answer.verdict, answer.firings, answer.forced);
     for count in machine.counts() {
         write!(text, " {count}").expect("a string takes all");
     }

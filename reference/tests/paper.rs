@@ -1,7 +1,8 @@
 //! The numbers that documents 01 and 02 state.
 
 use reference::examples::{
-    doubling, ring, single, six_conditions, Description, CAUSES, EXCLUDES, IMPLIES, REQUIRES,
+    doubling, forced_in_vain, held_up, ring, single, six_conditions, Description, CAUSES, EXCLUDES,
+    IMPLIES, REQUIRES,
 };
 use reference::frames::script;
 use reference::machine::STEP_LIMIT;
@@ -20,72 +21,80 @@ fn run(machine: &mut Machine, calls: &str) -> Vec<Answer> {
         .collect()
 }
 
-/// The answers to the calls as pairs, and the counts after the last.
-fn outcome(description: &Description, calls: &str) -> (Vec<(u8, u16)>, Vec<u8>) {
-    let mut machine = machine_of(description);
-    let answers = run(&mut machine, calls)
+/// Verdict, firings, forced ones.
+type Numbers = (u8, u16, u16);
+
+fn numbers(answers: &[Answer]) -> Vec<Numbers> {
+    answers
         .iter()
-        .map(|answer| (answer.verdict, answer.firings))
-        .collect();
-    (answers, machine.counts().to_vec())
+        .map(|answer| (answer.verdict, answer.firings, answer.forced))
+        .collect()
 }
 
-fn on_six(calls: &str) -> (Vec<(u8, u16)>, Vec<u8>) {
+/// The answers to the calls, and the counts after the last.
+fn outcome(description: &Description, calls: &str) -> (Vec<Numbers>, Vec<u8>) {
+    let mut machine = machine_of(description);
+    let answers = run(&mut machine, calls);
+    (numbers(&answers), machine.counts().to_vec())
+}
+
+fn on_six(calls: &str) -> (Vec<Numbers>, Vec<u8>) {
     outcome(&six_conditions(), calls)
 }
 
 #[test]
 fn p1_a_requirement_not_met() {
-    assert_eq!(on_six("+1"), (vec![(12, 0)], vec![0; 6]));
+    assert_eq!(on_six("+1"), (vec![(12, 0, 0)], vec![0; 6]));
 }
 
 #[test]
 fn p2_a_capacity_reached() {
     let counts = vec![1, 0, 0, 0, 0, 0];
-    assert_eq!(on_six("+0 +0"), (vec![(0, 1), (12, 0)], counts));
+    assert_eq!(on_six("+0 +0"), (vec![(0, 1, 0), (12, 0, 0)], counts));
 }
 
 #[test]
 fn p3_followers_come_along() {
-    assert_eq!(on_six("+3"), (vec![(0, 3)], vec![0, 0, 1, 1, 0, 1]));
+    assert_eq!(on_six("+3"), (vec![(0, 3, 0)], vec![0, 0, 1, 1, 0, 1]));
 }
 
 #[test]
 fn p4_an_implied_context_pulls_down() {
-    assert_eq!(on_six("+3 -2"), (vec![(0, 3), (0, 3)], vec![0; 6]));
+    let answers = vec![(0, 3, 0), (0, 3, 1)];
+    assert_eq!(on_six("+3 -2"), (answers, vec![0; 6]));
 }
 
 #[test]
 fn p5_a_drop_serves_the_cascade() {
-    let answers = vec![(0, 3), (0, 1), (0, 3)];
+    let answers = vec![(0, 3, 0), (0, 1, 0), (0, 3, 0)];
     assert_eq!(on_six("+3 -5 -3"), (answers, vec![0; 6]));
 }
 
 #[test]
 fn p6_forced_only_when_the_last_token_goes() {
     let (answers, counts) = on_six("+3 +3 -2");
-    assert_eq!(answers[2], (0, 1));
+    assert_eq!(answers[2], (0, 1, 0));
     assert_eq!(counts, vec![0, 0, 1, 2, 0, 2]);
     let (answers, counts) = on_six("+3 +3 -2 -2");
-    assert_eq!(answers[3], (0, 5));
+    assert_eq!(answers[3], (0, 5, 2));
     assert_eq!(counts, vec![0; 6]);
 }
 
 #[test]
 fn p7_an_exclusion_rolls_back() {
-    let answers = vec![(0, 1), (0, 1), (12, 2)];
+    let answers = vec![(0, 1, 0), (0, 1, 0), (12, 2, 0)];
     assert_eq!(on_six("+0 +4 +3"), (answers, vec![1, 0, 0, 0, 1, 0]));
 }
 
 #[test]
 fn p8_switching_off_what_is_off() {
-    assert_eq!(on_six("-5"), (vec![(14, 0)], vec![0; 6]));
-    assert_eq!(on_six("-2"), (vec![(14, 0)], vec![0; 6]));
+    assert_eq!(on_six("-5"), (vec![(14, 0, 0)], vec![0; 6]));
+    assert_eq!(on_six("-2"), (vec![(14, 0, 0)], vec![0; 6]));
 }
 
 #[test]
 fn switching_off_once_more_changes_nothing() {
-    let answers = vec![(0, 3), (0, 1), (14, 0), (0, 3)];
+    let answers = vec![(0, 3, 0), (0, 1, 0), (14, 0, 0), (0, 3, 0)];
     assert_eq!(on_six("+3 -5 -5 -3"), (answers, vec![0; 6]));
     let mut machine = machine_of(&six_conditions());
     let answers = run(&mut machine, "-5 +3 -5 -5 u u u");
@@ -183,23 +192,92 @@ fn sets_fill_six_bytes() {
 #[test]
 fn rings_of_implications() {
     let last = |n: usize| outcome(&ring(IMPLIES, &vec![255; n]), "+0");
-    assert_eq!(last(15), (vec![(12, 15 * 255)], vec![0; 15]));
-    assert_eq!(last(16), (vec![(12, 4080)], vec![0; 16]));
-    assert_eq!(last(17), (vec![(11, 4096)], vec![0; 17]));
-    assert_eq!(last(48), (vec![(11, 4096)], vec![0; 48]));
+    assert_eq!(last(15), (vec![(12, 15 * 255, 0)], vec![0; 15]));
+    assert_eq!(last(16), (vec![(12, 4080, 0)], vec![0; 16]));
+    assert_eq!(last(17), (vec![(11, 4096, 0)], vec![0; 17]));
+    assert_eq!(last(48), (vec![(11, 4096, 0)], vec![0; 48]));
 }
 
 #[test]
 fn quiet_after_exactly_the_step_limit_is_not_refused_with_11() {
+    let around = |capacities: &[u8]| outcome(&ring(IMPLIES, capacities), "+0").0;
     let mut capacities = [241; 17];
     capacities[16] = 240;
-    assert_eq!(outcome(&ring(IMPLIES, &capacities), "+0").0, [(12, 4096)]);
+    assert_eq!(around(&capacities), [(12, 4096, 0)]);
     capacities[16] = 241;
-    assert_eq!(outcome(&ring(IMPLIES, &capacities), "+0").0, [(11, 4096)]);
+    assert_eq!(around(&capacities), [(11, 4096, 0)]);
 
-    assert_eq!(outcome(&doubling(0), "+0 -0").0, [(0, 4095), (0, 4095)]);
-    assert_eq!(outcome(&doubling(1), "+0 -0").0, [(0, 4096), (0, 4096)]);
-    assert_eq!(outcome(&doubling(2), "+0 -0").0, [(11, 4096), (14, 0)]);
+    let on_and_off = |leaves| outcome(&doubling(leaves), "+0 -0").0;
+    assert_eq!(on_and_off(0), [(0, 4095, 0), (0, 4095, 0)]);
+    assert_eq!(on_and_off(1), [(0, 4096, 0), (0, 4096, 0)]);
+    assert_eq!(on_and_off(2), [(11, 4096, 0), (14, 0, 0)]);
+}
+
+#[test]
+fn implications_and_requirements_alone_add_forced_transitions() {
+    let (net, _) = load(&six_conditions().image().unwrap()).unwrap();
+    let transitions = net.transitions();
+    let forced: Vec<usize> = (0..16).filter(|&t| transitions[t].forced).collect();
+    assert_eq!(forced, [12, 13, 14]);
+}
+
+#[test]
+fn every_token_that_lacks_its_requirement_is_forced_off() {
+    // -0 forces RESET off once and BATTERYOUT twice.
+    let answers = vec![(0, 1, 0), (0, 1, 0), (0, 1, 0), (0, 1, 0), (0, 4, 3)];
+    assert_eq!(on_six("+0 +1 +4 +4 -0"), (answers, vec![0; 6]));
+}
+
+#[test]
+fn calls_without_a_step_force_nothing() {
+    let answers = vec![
+        (0, 3, 0),
+        (0, 3, 1),
+        (14, 0, 0),
+        (10, 0, 0),
+        (0, 0, 0),
+        (0, 0, 0),
+        (13, 0, 0),
+    ];
+    assert_eq!(on_six("+3 -2 -2 -6 u s u").0, answers);
+}
+
+#[test]
+fn a_refused_step_tells_what_it_forced() {
+    // deac(2), 0 forced off by its requirement, 1 by its first implication;
+    // the Pr(¬0) that this gives stays.
+    let answers = vec![(0, 3, 0), (12, 3, 2)];
+    assert_eq!(
+        outcome(&forced_in_vain([1; 3]), "+1 -2"),
+        (answers, vec![1; 3])
+    );
+    // The same with two tokens each.
+    let answers = vec![(0, 3, 0), (0, 3, 0), (0, 1, 0), (12, 5, 4)];
+    assert_eq!(
+        outcome(&forced_in_vain([2; 3]), "+1 +1 -2 -2"),
+        (answers, vec![2, 2, 1])
+    );
+}
+
+#[test]
+fn forced_firings_count_up_to_the_step_limit() {
+    let mut machine = machine_of(&held_up());
+    let filling = [vec![Call::Activate(0)], vec![Call::Activate(1); 89]].concat();
+    for call in filling {
+        assert!(machine.call(call).is_granted());
+    }
+    // 46 contexts of 89 tokens, then one token more, then two.
+    let answers = run(&mut machine, "-0 u +2 -0 u +2 -0");
+    let expected = vec![
+        (0, 4095, 4094),
+        (0, 0, 0),
+        (0, 1, 0),
+        (0, 4096, 4095),
+        (0, 0, 0),
+        (0, 1, 0),
+        (11, 4096, 4095),
+    ];
+    assert_eq!(numbers(&answers), expected);
 }
 
 #[test]
@@ -257,14 +335,14 @@ fn bench(image: &[u8], input: &[u8]) -> String {
 fn bench_run_prints_the_example() {
     let image = six_conditions().image().unwrap();
     let expected = "\
-+0 0 1 0:1
-+4 0 1 0:1 4:1
-+3 12 2 0:1 4:1
--0 0 2
-u 0 0 0:1 4:1
-u 0 0 0:1
-s 0 0 0:1
-u 13 0 0:1
++0 0 1 0 0:1
++4 0 1 0 0:1 4:1
++3 12 2 0 0:1 4:1
+-0 0 2 1
+u 0 0 0 0:1 4:1
+u 0 0 0 0:1
+s 0 0 0 0:1
+u 13 0 0 0:1
 ";
     assert_eq!(bench(&image, b"+0\n+4\n+3\n-0\nu\nu\ns\nu\n"), expected);
     // The last line end may be missing.
@@ -286,9 +364,9 @@ fn bench_run_marks_other_lines() {
     assert_eq!(bench(&image, b""), "");
     assert_eq!(
         bench(&image, b"+255\n-6\n-5"),
-        "+255 10 0\n-6 10 0\n-5 14 0\n"
+        "+255 10 0 0\n-6 10 0 0\n-5 14 0 0\n"
     );
-    assert_eq!(bench(b"", b"+0\nu\ns\n"), "+0 10 0\nu 13 0\ns 0 0\n");
+    assert_eq!(bench(b"", b"+0\nu\ns\n"), "+0 10 0 0\nu 13 0 0\ns 0 0 0\n");
 }
 
 #[test]
@@ -381,7 +459,7 @@ fn required_tokens_are_neither_activation_nor_deactivation() {
         &[9; 4],
         &[[REQUIRES, 0, 1], [IMPLIES, 1, 2], [CAUSES, 1, 3]],
     );
-    let expected = (vec![(0, 3), (0, 1), (0, 1)], vec![2, 1, 1, 1]);
+    let expected = (vec![(0, 3, 0), (0, 1, 0), (0, 1, 0)], vec![2, 1, 1, 1]);
     assert_eq!(outcome(&description, "+1 +0 +0"), expected);
 }
 
@@ -392,7 +470,7 @@ fn forced_transitions_know_all_followers_in_any_order() {
         [[REQUIRES, 0, 2], [CAUSES, 0, 1]],
     ] {
         let description = Description::new(&[9; 3], &relations);
-        let expected = (vec![(0, 1), (0, 2), (0, 3)], vec![0; 3]);
+        let expected = (vec![(0, 1, 0), (0, 2, 0), (0, 3, 1)], vec![0; 3]);
         assert_eq!(outcome(&description, "+2 +0 -2"), expected);
     }
 }

@@ -1,6 +1,7 @@
 //! The streams and listings, and the replay of random histories.
 
-use reference::examples::{single, six_conditions};
+use reference::examples::{forced_in_vain, single, six_conditions};
+use reference::hash::hash;
 use reference::random::{self, Xorshift};
 use reference::{compose, compose_cases, frames, load, reports, streams};
 use reference::{Call, Machine};
@@ -70,17 +71,57 @@ fn conformance_listing_has_its_form() {
     let frame = streams::Frame {
         description: six_conditions(),
         damages: Vec::new(),
-        calls: frames::script("+3 u u"),
+        calls: frames::script("+3 -2 u u u"),
         verbose: true,
     };
     reports::conformance(&frame, &mut text);
     let lines: Vec<&str> = text.lines().collect();
-    assert_eq!(lines.len(), 5);
+    assert_eq!(lines.len(), 7);
     assert!(lines[0].starts_with("0 0 6 5 784 "));
-    assert_eq!(lines[1], "0 3 0 0 1 1 0 1");
-    assert_eq!(lines[2], "0 0 0 0 0 0 0 0");
-    assert_eq!(lines[3], "13 0 0 0 0 0 0 0");
-    assert!(lines[4].ends_with(" 1 1 1"));
+    assert_eq!(lines[1], "0 3 0 0 0 1 1 0 1");
+    assert_eq!(lines[2], "0 3 1 0 0 0 0 0 0");
+    assert_eq!(lines[3], "0 0 0 0 0 1 1 0 1");
+    assert_eq!(lines[4], "0 0 0 0 0 0 0 0 0");
+    assert_eq!(lines[5], "13 0 0 0 0 0 0 0 0");
+    assert!(lines[6].ends_with(" 2 1 2"));
+}
+
+#[test]
+fn the_hash_takes_each_answer_in_order() {
+    let mut text = String::new();
+    let frame = streams::Frame {
+        description: forced_in_vain([1; 3]),
+        damages: Vec::new(),
+        calls: frames::script("+1 -2"),
+        verbose: false,
+    };
+    reports::conformance(&frame, &mut text);
+    // Verdict, firings, forced ones, counts, totals.
+    let granted = [0, 3, 0, 0, 0, 1, 1, 1, 1, 0, 0, 0, 0, 0, 0, 0, 0, 0, 0, 0];
+    let refused = [12, 3, 0, 2, 0, 1, 1, 1, 1, 0, 0, 0, 1, 0, 0, 0, 0, 0, 0, 0];
+    let expected = format!("{} 1 1 0", hash(&[granted, refused].concat()));
+    assert_eq!(text.lines().last(), Some(expected.as_str()));
+}
+
+/// What random frames alone would seldom or never bring.
+#[test]
+fn fixed_frames_force_in_steps_with_every_end() {
+    let mut most = [0; 15];
+    for frame in frames::fixed() {
+        let Ok(image) = frame.description.image() else {
+            continue;
+        };
+        let (net, _) = load(&image).unwrap();
+        let mut machine = Machine::fresh(net);
+        for call in frame.calls {
+            let answer = machine.call(call);
+            let forced = &mut most[usize::from(answer.verdict)];
+            *forced = answer.forced.max(*forced);
+        }
+    }
+    assert_eq!((most[0], most[11], most[12]), (4095, 4095, 4));
+    // No other answer follows a step.
+    assert!([10, 13, 14].into_iter().all(|verdict| most[verdict] == 0));
 }
 
 /// Demand 3: the history of a list of calls replays to the same counts.

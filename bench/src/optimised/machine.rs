@@ -1,7 +1,7 @@
 //! Requests with commit or rollback, undo, settling.
 
 use super::arcs::{Net, Set, MAX_CONTEXTS};
-use super::walk::{Arcs, Marks, Members, Table};
+use super::walk::{Arcs, Fired, Found, Marks, Members, Table};
 
 pub const REFUSED_CONTEXT: u8 = 10;
 pub const REFUSED_LIMIT: u8 = 11;
@@ -15,8 +15,8 @@ const OPEN_LIMIT: usize = 32;
 /// As many as a word has bits, so that no member of a set is out of bounds.
 const SLOTS: usize = 64;
 
-/// Verdict and firings.
-pub type Answer = (u8, u16);
+/// The verdict, and what the step fired.
+pub type Answer = (u8, Fired);
 
 /// What a granted request changes and an undo restores: one cache line.
 #[derive(Clone, Copy)]
@@ -234,40 +234,41 @@ impl<'net, const SPARSE: bool> Machine<'net, SPARSE> {
 
     fn request(&mut self) -> Answer {
         let before = self.marking.board;
-        let (firings, quiet) = self.step();
+        let (fired, quiet) = self.step();
         let marks = self.marking.marks();
         if quiet && marks.pr | marks.pr_not == 0 {
             self.open.push(&before);
             self.granted = self.granted.saturating_add(1);
-            return (GRANTED, firings);
+            return (GRANTED, fired);
         }
         self.marking.board = before;
         self.marking.pr.clear();
         self.marking.pr_not.clear();
-        self.refuse(if quiet { REFUSED_TOKEN } else { REFUSED_LIMIT }, firings)
+        self.refuse(if quiet { REFUSED_TOKEN } else { REFUSED_LIMIT }, fired)
     }
 
-    fn refuse(&mut self, refusal: u8, firings: u16) -> Answer {
+    fn refuse(&mut self, refusal: u8, fired: Fired) -> Answer {
         self.refused = self.refused.saturating_add(1);
-        (refusal, firings)
+        (refusal, fired)
     }
 
     /// The firings made, and whether none is enabled any more.
-    fn step(&mut self) -> (u16, bool) {
-        let mut firings = 0;
-        while let Some(arcs) = next::<SPARSE>(&self.table, self.marking.marks()) {
-            if firings == STEP_LIMIT {
-                return (firings, false);
+    fn step(&mut self) -> (Fired, bool) {
+        let mut fired = 0;
+        while let Some((arcs, firing)) = next::<SPARSE>(&self.table, self.marking.marks()) {
+            // The low half, all firings.
+            if fired as u16 == STEP_LIMIT {
+                return (fired, false);
             }
             self.marking.fire(arcs);
-            firings += 1;
+            fired += firing;
         }
-        (firings, true)
+        (fired, true)
     }
 }
 
 #[inline]
-fn next<const SPARSE: bool>(table: &Table, marks: Marks) -> Option<&Arcs> {
+fn next<const SPARSE: bool>(table: &Table, marks: Marks) -> Found<'_> {
     if SPARSE {
         table.next_of_movable(marks)
     } else {

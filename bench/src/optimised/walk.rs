@@ -109,6 +109,18 @@ impl Arcs {
     }
 }
 
+/// Firings in the low half, the forced ones among them in the high half. One
+/// word counts both, and its bytes stand in an answer as they are. A step's
+/// 4,096 do not spill from half to half.
+pub type Fired = u32;
+
+const FIRING: Fired = 1;
+const FORCED_FIRING: Fired = FIRING | 1 << 16;
+
+/// A transition to fire and what it counts as, which the walk knows by the
+/// group that it finds it in.
+pub type Found<'table> = Option<(&'table Arcs, Fired)>;
+
 /// The transitions in the order in which they come to fire: those of high
 /// priority by number, then the drops by number. The first that is ready is
 /// the enabled one of the lowest number.
@@ -142,13 +154,13 @@ impl Table {
 
     /// Walks over all transitions.
     #[inline]
-    pub fn next(&self, marks: Marks) -> Option<&Arcs> {
+    pub fn next(&self, marks: Marks) -> Found<'_> {
         for [act, deac] in &self.pairs {
             if act.is_ready_activation(marks) {
-                return Some(act);
+                return Some((act, FIRING));
             }
             if deac.is_ready_deactivation(marks) {
-                return Some(deac);
+                return Some((deac, FIRING));
             }
         }
         self.next_forced(marks).or_else(|| self.next_drop(marks))
@@ -157,15 +169,15 @@ impl Table {
     /// Leaves out the pairs that cannot be ready: act(c) needs its Pr(c) and
     /// room at c, deac(c) its Pr(¬c) and a token at c.
     #[inline]
-    pub fn next_of_movable(&self, marks: Marks) -> Option<&Arcs> {
+    pub fn next_of_movable(&self, marks: Marks) -> Found<'_> {
         let movable = marks.pr & !marks.full | marks.pr_not & marks.active;
         for c in Members(movable) {
             let [act, deac] = &self.pairs[c];
             if act.is_ready_activation(marks) {
-                return Some(act);
+                return Some((act, FIRING));
             }
             if deac.is_ready_deactivation(marks) {
-                return Some(deac);
+                return Some((deac, FIRING));
             }
         }
         let forced = self.next_forced(marks);
@@ -177,14 +189,15 @@ impl Table {
     }
 
     #[inline]
-    fn next_forced(&self, marks: Marks) -> Option<&Arcs> {
-        self.forced.iter().find(|arcs| arcs.is_ready_forced(marks))
+    fn next_forced(&self, marks: Marks) -> Found<'_> {
+        let ready = self.forced.iter().find(|arcs| arcs.is_ready_forced(marks));
+        ready.map(|arcs| (arcs, FORCED_FIRING))
     }
 
     #[inline]
-    fn next_drop(&self, marks: Marks) -> Option<&Arcs> {
-        self.drops
-            .iter()
-            .find(|arcs| arcs.is_ready_deactivation(marks))
+    fn next_drop(&self, marks: Marks) -> Found<'_> {
+        let mut drops = self.drops.iter();
+        let ready = drops.find(|arcs| arcs.is_ready_deactivation(marks));
+        ready.map(|arcs| (arcs, FIRING))
     }
 }

@@ -45,7 +45,15 @@ fn answer_call(engine: Engine, call: Call) -> Engine {
     let next = reply.engine;
     let counts = next.counts;
     let mut out = [0u8; 512];
-    let n = prints::answer(&mut out, call, verdict, answer.firings, next.n, counts);
+    let n = prints::answer(
+        &mut out,
+        call,
+        verdict,
+        answer.firings,
+        answer.forced,
+        next.n,
+        counts,
+    );
     io::write_all(STDOUT_FILENO, &out[..n]);
     next
 }

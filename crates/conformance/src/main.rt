@@ -55,7 +55,8 @@ fn hash_call(h: u64, answer: Answer, engine: Engine) -> u64 {
     let counts = engine.counts;
     let first = listing::fold(h, model::number(verdict));
     let firings = listing::hash_number(first, answer.firings as u64, 2);
-    let marking = listing::hash_front(firings, &counts, engine.n);
+    let forced = listing::hash_number(firings, answer.forced as u64, 2);
+    let marking = listing::hash_front(forced, &counts, engine.n);
     let granted = listing::hash_number(marking, engine.granted as u64, 4);
     let refused = listing::hash_number(granted, engine.refused as u64, 4);
     listing::hash_number(refused, engine.undone as u64, 4)
@@ -72,12 +73,13 @@ fn print_counts(counts: [u8; 48], n: usize) {
     listing::print_byte(LINE_END);
 }
 
-// Prints verdict, firings and counts.
+// Prints verdict, firings, forced ones and counts.
 fn print_call(answer: Answer, engine: Engine) {
     let verdict = answer.verdict;
     let counts = engine.counts;
     listing::print(model::number(verdict) as u64, BLANK);
-    listing::print_number(answer.firings as u64);
+    listing::print(answer.firings as u64, BLANK);
+    listing::print_number(answer.forced as u64);
     print_counts(counts, engine.n);
 }
 

@@ -164,7 +164,7 @@ refused-unsound r e p t call same q =
     let x = explained (b .net) (b .counts) r in
     let v = x .ten .1 empty in
     let f = x .unfired (λ a. let l = a .inside in omega arith) in
-    let a : effect (b .net) (b .counts) r .answer ≡ without-firings (Refused 10) = λ i. record { verdict = v i; firings = f i } in (
+    let a : effect (b .net) (b .counts) r .answer ≡ without-firings (Refused 10) = λ i. record { verdict = v i; firings = f .0 i; forced = f .1 i } in (
       b,
       reply-call b r
           ∙ ap (λ (z : Answer). record { answer = z; board = cond (is-granted (z .verdict)) (commit b r (effect (b .net) (b .counts) r .counts)) b }) a,

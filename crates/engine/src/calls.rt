@@ -47,6 +47,7 @@ fn refuse(mut e: Engine, on: bool, c: usize) -> Reply
         answer: Answer {
             verdict: Verdict::Refused(NO_SUCH_CONTEXT),
             firings: 0,
+            forced: 0,
         },
         engine: e,
     }

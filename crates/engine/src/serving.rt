@@ -109,6 +109,7 @@ fn undo(counts: &mut [u8; 48], requests: &[u16; 32], markings: &[u8; 1536], ring
             answer: Answer {
                 verdict: Verdict::Refused(NOTHING_OPEN),
                 firings: 0,
+                forced: 0,
             },
             ring,
         };
@@ -120,6 +121,7 @@ fn undo(counts: &mut [u8; 48], requests: &[u16; 32], markings: &[u8; 1536], ring
         answer: Answer {
             verdict: Verdict::Granted,
             firings: 0,
+            forced: 0,
         },
         ring: left,
     }
@@ -134,6 +136,7 @@ fn settle(counts: &[u8; 48], requests: &[u16; 32], markings: &[u8; 1536], ring: 
         answer: Answer {
             verdict: Verdict::Granted,
             firings: 0,
+            forced: 0,
         },
         ring: Ring {
             first: ring.first,

@@ -16,6 +16,7 @@ use Rattle.model.specs.Sets.{Set, bit, number}
 use Rattle.model.specs.Firing.{holds-token, tokens-after, fire}
 use Rattle.model.proofs.Masks.{number-cong}
 use Rattle.model.proofs.Tests.{and-left, and-right, and-both, imp-use, below-at}
+use Rattle.transitions.specs.Arcs.{unasked}
 use Rattle.transitions.specs.declared.Arcs.{Arcs}
 use Rattle.walk.specs.Markings.{counts-of, marking, below}
 use Rattle.walk.specs.Walks.{passes-first, passes-last, passes}
@@ -179,10 +180,12 @@ module _ {n : ℕ} {capacities counts temps : List ℕ} {a : Arcs} {s : Marked} 
           go j (yes h) = let k = f .stands .few in ap (λ (x : ℕ). ltb j n && ltb 0 x) (sym (first-kept j (omega arith)))
           go j (no h) = ap (λ (b : Bool). b && waiting 0 temps₁ j) (le-ltb j n (omega arith)) ∙ sym (ap (λ (b : Bool). b && waiting 0 temps₂ j) (le-ltb j n (omega arith)))
 
-      pub fired : Fired n capacities counts temps a counts′ temps₂ (record { context = r .context; pr = pr; prNot = prNot; spare = r .spare })
+      pub fired : {forced : Bool} → forced ≡ unasked a
+          → Fired n capacities counts temps a counts′ temps₂ (record { marked = record { context = r .context; pr = pr; prNot = prNot; spare = r .spare }; forced = forced })
       unfolding reading fire
-      fired =
+      fired told =
           record {
+            forced-is = told;
             stands =
                 record {
                   few = few;

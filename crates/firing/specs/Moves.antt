@@ -10,12 +10,14 @@ use Rattle.sets.specs.Sets.{members, minus, union, upto}
 use Rattle.model.specs.Sets.{Set, number}
 use Rattle.model.specs.Transitions.{Transition, activates}
 use Rattle.model.specs.Firing.{holds-token, tokens-after, fire}
+use Rattle.transitions.specs.Arcs.{unasked}
 use Rattle.transitions.specs.declared.Arcs.{Arcs}
 use Rattle.walk.specs.Markings.{counts-of, marking, below, Stands, AtMost}
 use Rattle.walk.specs.Walks.{passes}
 use Rattle.walk.specs.declared.Marked.{Marked}
+use Rattle.firing.specs.declared.firing.After.{After}
 
--- the transition that the words hold, of a net of n contexts. The role has no word, and no firing looks at it.
+-- the transition that the words hold, of a net of n contexts. The role has no word, and no token moves by it.
 unfoldable pub reading : ℕ → Arcs → Transition
 reading n a =
     record {
@@ -82,7 +84,9 @@ pub record Firable (n : ℕ) (capacities counts temps : List ℕ) (a : Arcs) (s 
   pub ready : passes a s ≡ true
   pub low : AtMost 4096 (marking counts temps)
 
--- what it does: the arrays hold the marking after the model's firing, and the words show it
-pub record Fired (n : ℕ) (capacities counts temps : List ℕ) (a : Arcs) (counts′ temps′ : List ℕ) (r : Marked) : Type 0 where
-  pub stands : Stands n capacities counts′ temps′ r
+-- what it does: the arrays hold the marking after the model's firing, the words show it, and whether the transition was a forced one is told
+-- as transitions/specs/Arcs has it (Tells)
+pub record Fired (n : ℕ) (capacities counts temps : List ℕ) (a : Arcs) (counts′ temps′ : List ℕ) (r : After) : Type 0 where
+  pub stands : Stands n capacities counts′ temps′ (r .marked)
+  pub forced-is : r .forced ≡ unasked a
   pub marking-is : marking counts′ temps′ ≡ fire (reading n a) (marking counts temps)

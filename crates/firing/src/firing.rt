@@ -9,6 +9,12 @@ use crate::words;
 use transitions::Arcs;
 use walk::Marked;
 
+// What a firing leaves: the words of the marking after it, and whether the transition is a forced one.
+pub struct After {
+    pub marked: Marked,
+    pub forced: bool,
+}
+
 // A count with a token less, where one is taken, or with one more.
 fn shift_count(count: u8, taken: bool) -> u8
     requires { ⌜ (taken ≡ true → 0 < count) × (taken ≡ false → count < 255) ⌝ }
@@ -86,7 +92,8 @@ fn move_temps(
     word
 }
 
-// Fires a transition. The caller has found it ready by these words, and no temporary place holds more than 4,096 tokens.
+// Fires a transition, and tells whether it is a forced one. The caller has found it ready by these words, and no temporary place holds
+// more than 4,096 tokens.
 pub fn fire(
     a: Arcs,
     marks: Marked,
@@ -94,17 +101,20 @@ pub fn fire(
     capacities: &[u8; 48],
     counts: &mut [u8; 48],
     temps: &mut [u16; 96],
-) -> Marked
+) -> After
     requires { ⌜ Firable n (now capacities) (now counts) (now temps) a marks ⌝ }
     ensures { λ r. ⌜ Fired n (now (capacities .entry)) (now (counts .entry)) (now (temps .entry)) a (now (counts .exit)) (now (temps .exit)) r ⌝ }
 {
     let moved = move_counts(counts, capacities, n, a.takesContext, a.givesContext, marks);
     let pr = move_temps(temps, 0, n, a.takesPr, a.givesPr, marks.pr);
     let prNot = move_temps(temps, 48, n, a.takesNot, a.givesNot, marks.prNot);
-    Marked {
-        context: moved.context,
-        pr,
-        prNot,
-        spare: moved.spare,
+    After {
+        marked: Marked {
+            context: moved.context,
+            pr,
+            prNot,
+            spare: moved.spare,
+        },
+        forced: transitions::is_forced(a),
     }
 }

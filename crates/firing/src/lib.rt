@@ -2,6 +2,7 @@
 mod firing;
 mod words;
 
+pub use firing::After;
 pub use firing::fire;
 pub use words::asking;
 pub use words::at_rest;

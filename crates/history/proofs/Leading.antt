@@ -1,93 +1,74 @@
 -- A list of calls over lent arrays, from a fresh net: each call leads on as the machine does.
 -- Assumes nothing.
 use Prim.Native.Nat.{ℕ, zero, suc, _+_, _*_, _/_, _%_, _<_, _≤_}
+use native.Mathlib.Numerals.{add-one}
 use native.Mathlib.Omega.{arith}
 use mathlib.Core.Path.{_≡_, refl, sym, subst, ap, ap₂, _∙_}
 use mathlib.Core.Bool.{Bool, true, false, _||_, not}
 use mathlib.Core.List.{List, [], _∷_, _++_, map}
 use lib.Dec.{ltb, eqb}
-use lib.ListN.{length, getD, take, drop, replicate}
-use lib.Seq.{drop-length}
+use lib.ListN.{length, getD, take, drop, replicate, length-map}
+use lib.Seq.{take-all, take-suc, length-take-le, drop-length}
 use borrow.Author.Tests.{ne-eqb, eq-eqb, lt-ltb, le-ltb}
 use Rattle.model.specs.Sets.{concat-map}
 use Rattle.model.specs.Relations.{Net}
-use Rattle.model.specs.Machine.{Event, Request, State, Board, respond, fresh, begin, board-at, after, log, event, zeros}
+use Rattle.model.specs.Machine.{Event, State, respond, fresh, board-at, after, log, event}
 use Rattle.model.specs.declared.Answer.{Answer}
 use Rattle.model.specs.declared.Call.{Call}
+use Rattle.model.specs.declared.Call.the-variants.{Undo}
 use Rattle.model.proofs.Replay.{after-snoc, log-snoc}
-use Rattle.state.specs.View.{board-in}
-use Rattle.slots.specs.View.{entries, counts-in}
+use Rattle.model.proofs.Sizes.{length-concat-map}
+use Rattle.state.specs.View.{board-in, tally-in}
+use Rattle.slots.specs.View.{entries}
 use Rattle.slots.specs.declared.Ring.{Ring}
 use Rattle.state.specs.declared.Tally.{Tally}
 use Rattle.state.proofs.States.{zeros-in}
-use Rattle.engine.specs.Serving.{state-at, Serves}
+use Rattle.engine.specs.Serving.{state-at}
 use Rattle.engine.specs.declared.serving.Served.{Served}
 use Rattle.records.specs.Bytes.{put}
-use Rattle.records.proofs.Puts.{put-next, put-none, length-put, concat-map-append}
+use Rattle.records.proofs.Puts.{put-next, put-none, concat-map-append}
 use Rattle.history.specs.Reports.{call-in, calls-in, unknown-call, no-calls, answer-bytes, answers-of}
 use Rattle.history.specs.Running.{Answered, Led, Ended}
-use Rattle.history.specs.declared.lists.Ending.{Ending}
 
 -- ---- calls in bytes
 
--- the first k calls, and one more
-calls-step : (k : ℕ) (bs : List ℕ) → 3 * k + 2 < length bs
-    → calls-in (take (3 * k + 3) bs) ≡ calls-in (take (3 * k) bs) ++ (call-in (getD bs (3 * k) 0) (getD bs (3 * k + 1) 0) (getD bs (3 * k + 2) 0) ∷ [])
+pub calls-count : (bs : List ℕ) → length (calls-in bs) ≡ length bs / 3
 unfolding calls-in
-calls-step zero [] h = absurd (omega arith)
-calls-step zero (a ∷ []) h = absurd (omega arith)
-calls-step zero (a ∷ b ∷ []) h = absurd (omega arith)
-calls-step zero (a ∷ b ∷ c ∷ bs) h = refl
-calls-step (suc k) [] h = absurd (omega arith)
-calls-step (suc k) (a ∷ []) h = absurd (omega arith)
-calls-step (suc k) (a ∷ b ∷ []) h = absurd (omega arith)
-calls-step (suc k) (a ∷ b ∷ c ∷ bs) h =
+calls-count [] = refl
+calls-count (a ∷ []) = refl
+calls-count (a ∷ b ∷ []) = refl
+calls-count (a ∷ b ∷ c ∷ bs) = let i = calls-count bs in omega arith
+
+-- call k by its bytes
+calls-at : (k : ℕ) (bs : List ℕ) (d : Call) → k < length bs / 3
+    → getD (calls-in bs) k d ≡ call-in (getD bs (3 * k) 0) (getD bs (3 * k + 1) 0) (getD bs (3 * k + 2) 0)
+unfolding calls-in
+calls-at k [] d h = absurd (omega arith)
+calls-at k (a ∷ []) d h = absurd (omega arith)
+calls-at k (a ∷ b ∷ []) d h = absurd (omega arith)
+calls-at zero (a ∷ b ∷ c ∷ bs) d h = refl
+calls-at (suc k) (a ∷ b ∷ c ∷ bs) d h =
     let l = a ∷ b ∷ c ∷ bs in
     let p : 3 * suc k ≡ suc (suc (suc (3 * k))) = omega arith in
     let p₁ : 3 * suc k + 1 ≡ suc (suc (suc (3 * k + 1))) = omega arith in
     let p₂ : 3 * suc k + 2 ≡ suc (suc (suc (3 * k + 2))) = omega arith in
-    let p₃ : 3 * suc k + 3 ≡ suc (suc (suc (3 * k + 3))) = omega arith in
-    ap (λ (j : ℕ). calls-in (take j l)) p₃
-    ∙ ap (λ (cs : List Call). call-in a b c ∷ cs) (calls-step k bs (omega arith))
-    ∙ sym (ap (λ (j : ℕ). calls-in (take j l) ++ (call-in (getD l (3 * suc k) 0) (getD l (3 * suc k + 1) 0) (getD l (3 * suc k + 2) 0) ∷ [])) p
-    ∙ (λ i. calls-in (take (suc (suc (suc (3 * k)))) l) ++ (call-in (getD l (p i) 0) (getD l (p₁ i) 0) (getD l (p₂ i) 0) ∷ [])))
+    calls-at k bs d (omega arith) ∙ sym (λ i. call-in (getD l (p i) 0) (getD l (p₁ i) 0) (getD l (p₂ i) 0))
 
-pub calls-more : (i : ℕ) (bs : List ℕ) → i % 3 ≡ 0 → i + 2 < length bs
-    → calls-in (take (i + 3) bs) ≡ calls-in (take i bs) ++ (call-in (getD bs i 0) (getD bs (i + 1) 0) (getD bs (i + 2) 0) ∷ [])
-calls-more i bs whole h =
-    let e : 3 * (i / 3) ≡ i = omega arith in
-    subst (λ (j : ℕ). calls-in (take (j + 3) bs) ≡ calls-in (take j bs) ++ (call-in (getD bs j 0) (getD bs (j + 1) 0) (getD bs (j + 2) 0) ∷ [])) e
-    (calls-step (i / 3) bs (subst (λ (j : ℕ). j + 2 < length bs) (sym e) h))
+-- the first k calls, and one more
+calls-more : (k : ℕ) (bs : List ℕ) → k < length bs / 3
+    → take (k + 1) (calls-in bs) ≡ take k (calls-in bs) ++ (call-in (getD bs (3 * k) 0) (getD bs (3 * k + 1) 0) (getD bs (3 * k + 2) 0) ∷ [])
+calls-more k bs h = rw (add-one k, take-suc (calls-in bs) k Undo (omega (arith, calls-count bs)), calls-at k bs Undo h)
 
-calls-count : (k : ℕ) (bs : List ℕ) → 3 * k ≤ length bs → length (calls-in (take (3 * k) bs)) ≡ k
-unfolding calls-in
-calls-count zero bs h = refl
-calls-count (suc k) [] h = absurd (omega arith)
-calls-count (suc k) (a ∷ []) h = absurd (omega arith)
-calls-count (suc k) (a ∷ b ∷ []) h = absurd (omega arith)
-calls-count (suc k) (a ∷ b ∷ c ∷ bs) h =
-    let p : 3 * suc k ≡ suc (suc (suc (3 * k))) = omega arith in
-    ap (λ (j : ℕ). length (calls-in (take j (a ∷ b ∷ c ∷ bs)))) p ∙ ap suc (calls-count k bs (omega arith))
-
--- how many bytes the answers take: as many as the calls
+-- how many bytes the answers take: five for each call
 log-length : (s : State) (cs : List Call) → length (log s cs) ≡ length cs
 unfolding log
 log-length s [] = refl
 log-length s (c ∷ cs) = ap suc (log-length (respond s c .state) cs)
 
-answers-length : (es : List Event) → length (concat-map answer-bytes (map (λ (e : Event). e .answer) es)) ≡ 3 * length es
-answers-length [] = refl
-answers-length (e ∷ es) =
-    let i = answers-length es in
-    let p : 3 * suc (length es) ≡ suc (suc (suc (3 * length es))) = omega arith in
-    ap (λ (x : ℕ). suc (suc (suc x))) i ∙ sym p
-
-pub answers-long : (net : Net) (i : ℕ) (bs : List ℕ) → i % 3 ≡ 0 → i ≤ length bs → length (answers-of net (calls-in (take i bs))) ≡ i
-answers-long net i bs whole h =
-    let e : 3 * (i / 3) ≡ i = omega arith in
-    answers-length (log (fresh net) (calls-in (take i bs)))
-    ∙ ap (λ (x : ℕ). 3 * x) (log-length (fresh net) (calls-in (take i bs)))
-    ∙ subst (λ (j : ℕ). 3 * length (calls-in (take j bs)) ≡ j) e (ap (λ (x : ℕ). 3 * x) (calls-count (i / 3) bs (omega arith)))
+pub answers-long : (net : Net) (cs : List Call) → length (answers-of net cs) ≡ 5 * length cs
+answers-long net cs =
+    length-concat-map answer-bytes 5 (λ _. refl) (map (λ (e : Event). e .answer) (log (fresh net) cs))
+    ∙ ap (λ (x : ℕ). 5 * x) (length-map (log (fresh net) cs) _ ∙ log-length (fresh net) cs)
 
 -- ---- one call after the other
 
@@ -102,24 +83,25 @@ answers-snoc net cs c =
     ∙ concat-map-append answer-bytes (map (λ (x : Event). x .answer) (log (fresh net) cs)) (respond (after (fresh net) cs) c .answer ∷ [])
 
 -- before the first call
-pub led-none : (net : Net) (out : List ℕ) → Led net [] (replicate 48 0) (replicate 32 0) (replicate 1536 0) (record { first = 0; opened = 0 }) (record { granted = 0; refused = 0; undone = 0 }) out out
+pub led-none : (net : Net) (out : List ℕ) (tally : Tally) → tally ≡ record { granted = 0; refused = 0; undone = 0 }
+    → Led net [] (replicate 48 0) (replicate 32 0) (replicate 1536 0) (record { first = 0; opened = 0 }) tally out out
 unfolding after log board-in board-at entries
-led-none net out =
+led-none net out tally e =
     record {
       state = λ i. record {
         board = record { net = net; counts = zeros-in 48 i; settled = []; opened = [] };
-        tally = record { granted = 0; refused = 0; undone = 0 };
+        tally = tally-in (e i);
       };
       written = put-none out 0;
     }
 
 -- one call more
 pub led-more : (net : Net) (cs : List Call) (c : Call) (counts requests markings : List ℕ) (ring : Ring) (tally : Tally) (out₀ out : List ℕ)
-    → Led net cs counts requests markings ring tally out₀ out → (i : ℕ) → length (answers-of net cs) ≡ i → i + 3 ≤ length out₀
+    → Led net cs counts requests markings ring tally out₀ out → (at : ℕ) → length (answers-of net cs) ≡ at → at + 5 ≤ length out₀
     → (counts′ requests′ markings′ : List ℕ) (s : Served) (out′ : List ℕ)
-    → Answered net c counts requests markings ring tally counts′ requests′ markings′ s out i out′
+    → Answered net c counts requests markings ring tally counts′ requests′ markings′ s out at out′
     → Led net (cs ++ (c ∷ [])) counts′ requests′ markings′ (s .ring) (s .tally) out₀ out′
-led-more net cs c counts requests markings ring tally out₀ out l i long room counts′ requests′ markings′ s out′ a =
+led-more net cs c counts requests markings ring tally out₀ out l at long room counts′ requests′ markings′ s out′ a =
     let m = after (fresh net) cs in
     let σ = m .board .settled in
     let snoc = after-snoc (fresh net) cs c in
@@ -129,40 +111,29 @@ led-more net cs c counts requests markings ring tally out₀ out l i long room c
     record {
       state = subst (λ (x : State). state-at net counts′ requests′ markings′ (s .ring) (s .tally) (x .board .settled) ≡ x) (sym snoc) led;
       written =
-          put-next out₀ 0 i i (answers-of net cs) (answer-bytes (s .answer)) (l .written) long (omega arith) (omega arith) (a .written)
+          put-next out₀ 0 at at (answers-of net cs) (answer-bytes (s .answer)) (l .written) long (omega arith) (omega arith) (a .written)
           ∙ ap (put out₀ 0) (ap (λ (x : Answer). answers-of net cs ++ answer-bytes x) same ∙ sym (answers-snoc net cs c));
     }
 
 -- the same by the bytes of the list
-pub led-next : (net : Net) (bs : List ℕ) (i k : ℕ) → k ≡ i + 3 → i % 3 ≡ 0 → i + 2 < length bs → (counts requests markings : List ℕ) (ring : Ring) (tally : Tally) (out₀ out : List ℕ)
-    → i + 3 ≤ length out₀ → Led net (calls-in (take i bs)) counts requests markings ring tally out₀ out
+pub led-next : (net : Net) (bs : List ℕ) (k : ℕ) → k < length bs / 3 → (counts requests markings : List ℕ) (ring : Ring) (tally : Tally) (out₀ out : List ℕ)
+    → 5 * k + 5 ≤ length out₀ → Led net (take k (calls-in bs)) counts requests markings ring tally out₀ out
     → (counts′ requests′ markings′ : List ℕ) (s : Served) (out′ : List ℕ)
-    → Answered net (call-in (getD bs i 0) (getD bs (i + 1) 0) (getD bs (i + 2) 0)) counts requests markings ring tally counts′ requests′ markings′ s out i out′
-    → Led net (calls-in (take k bs)) counts′ requests′ markings′ (s .ring) (s .tally) out₀ out′
-led-next net bs i k next whole h counts requests markings ring tally out₀ out room l counts′ requests′ markings′ s out′ a =
-    subst (λ (cs : List Call). Led net cs counts′ requests′ markings′ (s .ring) (s .tally) out₀ out′) (sym (ap (λ (j : ℕ). calls-in (take j bs)) next ∙ calls-more i bs whole h))
-    (led-more net (calls-in (take i bs)) _ counts requests markings ring tally out₀ out l i (answers-long net i bs whole (omega arith)) room counts′ requests′ markings′ s out′ a)
-
--- an answer keeps the output's length
-pub answered-length : {net : Net} {call : Call} {counts requests markings : List ℕ} {ring : Ring} {tally : Tally} {counts′ requests′ markings′ : List ℕ} {s : Served} {out out′ : List ℕ} {i : ℕ}
-    → i + 3 ≤ length out → Answered net call counts requests markings ring tally counts′ requests′ markings′ s out i out′ → length out′ ≡ length out
-answered-length {s = s} {out = out} {i = i} h a = ap length (a .written) ∙ length-put out i (answer-bytes (s .answer)) h
+    → Answered net (call-in (getD bs (3 * k) 0) (getD bs (3 * k + 1) 0) (getD bs (3 * k + 2) 0)) counts requests markings ring tally counts′ requests′ markings′ s out (5 * k) out′
+    → Led net (take (k + 1) (calls-in bs)) counts′ requests′ markings′ (s .ring) (s .tally) out₀ out′
+led-next net bs k h counts requests markings ring tally out₀ out room l counts′ requests′ markings′ s out′ a =
+    let cs = take k (calls-in bs) in
+    let long : length (answers-of net cs) ≡ 5 * k = answers-long net cs ∙ ap (λ (x : ℕ). 5 * x) (length-take-le k (calls-in bs) (omega (arith, calls-count bs))) in
+    subst (λ (cs : List Call). Led net cs counts′ requests′ markings′ (s .ring) (s .tally) out₀ out′) (sym (calls-more k bs h))
+    (led-more net cs _ counts requests markings ring tally out₀ out l (5 * k) long room counts′ requests′ markings′ s out′ a)
 
 -- the end of the list
-pub led-all : (net : Net) (bs : List ℕ) (i : ℕ) → length bs ≤ i → (counts requests markings : List ℕ) (ring : Ring) (tally : Tally) (out₀ out : List ℕ)
-    → Led net (calls-in (take i bs)) counts requests markings ring tally out₀ out → Ended net bs out₀ (record { counts = counts; tally = tally }) out
+pub led-all : (net : Net) (bs : List ℕ) (k : ℕ) → length bs / 3 ≤ k → (counts requests markings : List ℕ) (ring : Ring) (tally : Tally) (out₀ out : List ℕ)
+    → Led net (take k (calls-in bs)) counts requests markings ring tally out₀ out → Ended net bs out₀ (record { counts = counts; tally = tally }) out
 unfolding board-in
-led-all net bs i h counts requests markings ring tally out₀ out l =
-    let all : take i bs ≡ bs = take-whole i bs h in
-    let k : Led net (calls-in bs) counts requests markings ring tally out₀ out =
-    subst (λ (x : List ℕ). Led net (calls-in x) counts requests markings ring tally out₀ out) all l in
-    record { counts = ap (λ (s : State). s .board .counts) (k .state); tally-is = ap (λ (s : State). s .tally) (k .state); written = k .written }
-  where
-    take-whole : (j : ℕ) (xs : List ℕ) → length xs ≤ j → take j xs ≡ xs
-    take-whole zero [] q = refl
-    take-whole zero (x ∷ xs) q = absurd (omega arith)
-    take-whole (suc j) [] q = refl
-    take-whole (suc j) (x ∷ xs) q = ap (λ (l : List ℕ). x ∷ l) (take-whole j xs (omega arith))
+led-all net bs k h counts requests markings ring tally out₀ out l =
+    let e : Led net (calls-in bs) counts requests markings ring tally out₀ out = rw (take-all k (calls-in bs) (omega (arith, calls-count bs))) at l in
+    record { counts = ap (λ (s : State). s .board .counts) (e .state); tally-is = ap (λ (s : State). s .tally) (e .state); written = e .written }
 
 -- ---- the test of a list of calls
 

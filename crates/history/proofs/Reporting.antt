@@ -1,39 +1,35 @@
 -- The report of a list of calls: its length, what it is made of, and the whole run.
 -- Assumes nothing.
-use Prim.Native.Nat.{ℕ, zero, suc, _+_, _*_, _%_, _<_, _≤_}
-use native.Mathlib.Nat.{add-suc, suc-add}
+use Prim.Native.Nat.{ℕ, zero, suc, _+_, _*_, _/_, _<_, _≤_}
 use native.Mathlib.Omega.{arith}
 use mathlib.Core.Path.{_≡_, refl, sym, subst, ap, ap₂, _∙_}
-use mathlib.Core.Bool.{Bool, true, false, _||_, not, cond}
+use mathlib.Core.Bool.{Bool, true, false, _||_, cond}
 use mathlib.Core.List.{List, [], _∷_, _++_, map}
-use lib.Dec.{eqb, ltb}
+use lib.Dec.{ltb}
 use lib.ListN.{length, getD, take, drop, length-append, length-map}
 use lib.Seq.{drop-cons, length-take-le}
-use borrow.Author.Tests.{ltb-true, ltb-false, eqb-true}
-use Rattle.model.specs.Sets.{any, range}
-use Rattle.model.specs.Relations.{Net, size, relation-count, misfit, empty-net}
+use borrow.Author.Tests.{ltb-true, ltb-false}
+use Rattle.model.specs.Sets.{range}
+use Rattle.model.specs.Relations.{Net, size, relation-count, empty-net}
 use Rattle.model.specs.Transitions.{transitions-of}
 use Rattle.model.specs.Machine.{State, Counts, fresh, after, board-at}
-use Rattle.model.specs.Image.{edition-1, load}
 use Rattle.model.proofs.Replay.{after-net}
 use Rattle.model.proofs.Sizes.{length-range}
-use Rattle.model.proofs.Tests.{or-false-left, or-false-right}
 use Rattle.relations.specs.Reading.{relations-in, Composable}
 use Rattle.net.specs.Tables.{Columns, Filled}
 use Rattle.relations.proofs.Reading.{length-first}
 use Rattle.state.specs.View.{state, sound, net-in, net-of, tally-in}
-use Rattle.slots.specs.View.{counts-in}
 use Rattle.state.specs.declared.Engine.{Engine}
 use Rattle.state.proofs.States.{Limits, sound-limits}
 use Rattle.steps.specs.Steps.{Describes}
 use Rattle.engine.proofs.Describing.{composable, described, few-of}
 use Rattle.records.specs.Bytes.{put}
-use Rattle.records.proofs.Puts.{put-next, put-start, length-put}
+use Rattle.records.proofs.Puts.{put-next, put-start}
 use Rattle.history.specs.Chains.{loaded}
-use Rattle.history.specs.Reports.{Ran, calls-in, unknown-call, no-calls, answer-bytes, answers-of, tally-bytes, state-bytes, report, ran}
+use Rattle.history.specs.Reports.{Ran, calls-in, no-calls, answers-of, tally-bytes, state-bytes, report, ran}
 use Rattle.history.specs.Running.{Held, Ended, Reports}
 use Rattle.history.specs.declared.lists.Ending.{Ending}
-use Rattle.history.proofs.Leading.{answers-long}
+use Rattle.history.proofs.Leading.{calls-count, answers-long}
 
 -- ---- the net of an engine, by what is shown of it
 
@@ -109,22 +105,15 @@ module _ (net : Net) (bs : List ℕ) where
   unfolding board-at
   state-size = ap size (after-net (fresh net) (calls-in bs))
 
-  take-all : (xs : List ℕ) → take (length xs) xs ≡ xs
-  take-all [] = refl
-  take-all (x ∷ xs) = ap (λ (l : List ℕ). x ∷ l) (take-all xs)
+  answers-size : length (answers-of net (calls-in bs)) ≡ 5 * (length bs / 3)
+  answers-size = answers-long net (calls-in bs) ∙ ap (λ (x : ℕ). 5 * x) (calls-count bs)
 
-  answers-whole : length bs % 3 ≡ 0 → length (answers-of net (calls-in bs)) ≡ length bs
-  answers-whole whole = ap (λ (l : List ℕ). length (answers-of net (calls-in l))) (sym (take-all bs)) ∙ answers-long net (length bs) bs whole (omega arith)
-
-  pub ended-length : (out out₁ : List ℕ) (end : Ending) → Ended net bs out end out₁ → length bs % 3 ≡ 0 → length bs ≤ length out → length out₁ ≡ length out
-  ended-length out out₁ end h whole room = ap length (h .written) ∙ length-put out 0 (answers-of net (calls-in bs)) (omega (arith, answers-whole whole))
-
-  pub report-length : length bs % 3 ≡ 0 → length (report net (calls-in bs)) ≡ length bs + (size net + 12)
+  pub report-length : length (report net (calls-in bs)) ≡ 5 * (length bs / 3) + (size net + 12)
   unfolding report
-  report-length whole =
+  report-length =
       let s = after (fresh net) (calls-in bs) in
       let m = map (s .board .counts) (range 0 (size (s .board .net))) in
-      let a = answers-whole whole in
+      let a = answers-size in
       let b = length-append (answers-of net (calls-in bs)) (state-bytes s) in
       let d = length-append m (tally-bytes (s .tally)) in
       let f : length m ≡ size net = length-map (range 0 (size (s .board .net))) _ ∙ length-range 0 (size (s .board .net)) ∙ state-size in
@@ -141,14 +130,14 @@ module _ (net : Net) (bs : List ℕ) where
         ap₂ (λ (x y : List ℕ). answers-of net (calls-in bs) ++ (x ++ y)) p (ap tally-bytes (sym (h .tally-is)))
 
     -- what is in the output when counts and totals have been written behind the answers
-    pub reported : length bs % 3 ≡ 0 → (r : ℕ) → r ≡ length bs + (n + 12) → r ≤ length out → (out′ : List ℕ)
-        → out′ ≡ put out₁ (length bs) (take n (end .counts) ++ tally-bytes (tally-in (end .tally))) → Reports net bs out r out′
-    reported whole r size-is room out′ w =
-        let l = report-length whole in
+    pub reported : (r : ℕ) → r ≡ 5 * (length bs / 3) + (n + 12) → r ≤ length out → (out′ : List ℕ)
+        → out′ ≡ put out₁ (5 * (length bs / 3)) (take n (end .counts) ++ tally-bytes (tally-in (end .tally))) → Reports net bs out r out′
+    reported r size-is room out′ w =
+        let l = report-length in
         let tail : List ℕ = take n (end .counts) ++ tally-bytes (tally-in (end .tally)) in
         let q : length tail ≡ n + 12 = length-append (take n (end .counts)) (tally-bytes (tally-in (end .tally))) ∙ ap (λ (x : ℕ). x + 12) (length-take-le n (end .counts) few) in
         let all : out′ ≡ put out 0 (answers-of net (calls-in bs) ++ tail) =
-        put-next out 0 (length bs) (length bs) (answers-of net (calls-in bs)) tail (h .written) (answers-whole whole) (omega arith) (omega (arith, q)) w in
+        put-next out 0 (5 * (length bs / 3)) (5 * (length bs / 3)) (answers-of net (calls-in bs)) tail (h .written) answers-size (omega arith) (omega (arith, q)) w in
         record {
           short = λ x. absurd (omega (arith, l));
           long = λ x. (
@@ -159,9 +148,9 @@ module _ (net : Net) (bs : List ℕ) where
         }
 
 -- no room for it
-pub unreported : (net : Net) (bs out : List ℕ) (n : ℕ) → n ≡ size net → length bs % 3 ≡ 0 → length out < length bs + (n + 12) → Reports net bs out 0 out
-unreported net bs out n sn whole h =
-    let l = report-length net bs whole in
+pub unreported : (net : Net) (bs out : List ℕ) (n : ℕ) → n ≡ size net → length out < 5 * (length bs / 3) + (n + 12) → Reports net bs out 0 out
+unreported net bs out n sn h =
+    let l = report-length net bs in
     record { short = λ x. (refl, refl); long = λ x. absurd (omega (arith, l)) }
 
 -- ---- the run
@@ -171,13 +160,6 @@ unfolding ran
 ran-none img bs out h =
     let r = report (loaded img) (calls-in bs) in
     ap (λ (b : Bool). cond (b || ltb (length out) (length r)) (record { written = 0; output = out }) (record { written = length r; output = r ++ drop (length r) out })) h
-
-pub whole-calls : (bs : List ℕ) → no-calls bs ≡ false → length bs % 3 ≡ 0
-whole-calls bs h = eqb-true (length bs % 3) 0 (not-false (eqb (length bs % 3) 0) (or-false-left (not (eqb (length bs % 3) 0)) (unknown-call bs) h))
-  where
-    not-false : (b : Bool) → not b ≡ false → b ≡ true
-    not-false true p = refl
-    not-false false p = sym p
 
 pub ran-some : (img bs out : List ℕ) → no-calls bs ≡ false → (r : ℕ) (out′ : List ℕ) → Reports (loaded img) bs out r out′ → record { written = r; output = out′ } ≡ ran img bs out
 unfolding ran

@@ -38,9 +38,9 @@ unknown-call (k ∷ low ∷ high ∷ bs) = ltb 3 k || unknown-call bs
 abbrev pub no-calls : List ℕ → Bool
 no-calls bs = not (eqb (length bs % 3) 0) || unknown-call bs
 
--- An answer is three bytes: 0 or the refusal, and the firings, their low byte first.
+-- An answer is five bytes: 0 or the refusal, the firings, then the forced ones, two bytes each, low byte first.
 abbrev pub answer-bytes : Answer → List ℕ
-answer-bytes a = verdict-number (a .verdict) ∷ bytes 2 (a .firings)
+answer-bytes a = verdict-number (a .verdict) ∷ (bytes 2 (a .firings) ++ bytes 2 (a .forced))
 
 -- the totals in four bytes each
 abbrev pub tally-bytes : Tally → List ℕ

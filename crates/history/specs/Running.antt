@@ -20,9 +20,9 @@ use Rattle.history.specs.Reports.{answer-bytes, calls-in, answers-of, re
 use Rattle.history.specs.declared.lists.Ending.{Ending}
 
 -- the call is served, and its answer stands in the output from a place on
-pub record Answered (net : Net) (call : Call) (counts requests markings : List ℕ) (ring : Ring) (tally : Tally) (counts′ requests′ markings′ : List ℕ) (s : Served) (out : List ℕ) (i : ℕ) (out′ : List ℕ) : Type 0 where
+pub record Answered (net : Net) (call : Call) (counts requests markings : List ℕ) (ring : Ring) (tally : Tally) (counts′ requests′ markings′ : List ℕ) (s : Served) (out : List ℕ) (at : ℕ) (out′ : List ℕ) : Type 0 where
   pub serves : Serves net call counts requests markings ring tally counts′ requests′ markings′ s
-  pub written : out′ ≡ put out i (answer-bytes (s .answer))
+  pub written : out′ ≡ put out at (answer-bytes (s .answer))
 
 -- some net whose transitions and capacities the arrays hold
 pub record Held (n t : ℕ) (cols : Columns) (capacities : List ℕ) : Type 0 where
@@ -42,7 +42,7 @@ pub record Ended (net : Net) (calls out₀ : List ℕ) (r : Ending) (out : List 
   pub tally-is : tally-in (r .tally) ≡ after (fresh net) (calls-in calls) .tally
   pub written : out ≡ put out₀ 0 (answers-of net (calls-in calls))
 
--- what a list of calls on the machine of a net before its first call reports, where the calls are whole and known
+-- what a list of calls on the machine of a net before its first call reports
 pub record Reports (net : Net) (calls out : List ℕ) (r : ℕ) (out′ : List ℕ) : Type 0 where
   pub short : length out < length (report net (calls-in calls)) → (r ≡ 0) × (out′ ≡ out)
   pub long : length (report net (calls-in calls)) ≤ length out

@@ -1,7 +1,7 @@
 // A list of calls from lent bytes, on the net freshly loaded from an image, and its answers in a lent buffer.
 ghost use mathlib.Core.Path.{_≡_};
 ghost use mathlib.Core.Bool.{not};
-ghost use Prim.Native.Nat.{ℕ, _+_, _*_, _%_, _<_, _≤_};
+ghost use Prim.Native.Nat.{_+_, _*_, _/_, _%_, _<_, _≤_};
 ghost use mathlib.Core.List.{[], _++_};
 ghost use lib.ListN.{length, getD, take};
 ghost use Rattle.model.specs.Machine.{fresh};
@@ -41,19 +41,25 @@ fn call_at(calls: &[u8], i: usize) -> Call
     call_of(calls[i], calls[i + 1], calls[i + 2])
 }
 
-// Writes an answer's three bytes from byte i on. The caller has room for them.
-fn write_answer(out: &mut [u8], i: usize, answer: Answer)
-    requires { ⌜ i + 2 < length (now out) ⌝ }
-    ensures { λ _. ⌜ now (out .exit) ≡ put (now (out .entry)) i (answer-bytes answer) ⌝ }
+// Writes an answer's five bytes from a place on. The caller has room for them.
+fn write_answer(out: &mut [u8], at: usize, answer: Answer)
+    requires { ⌜ at + 4 < length (now out) ⌝ }
+    ensures { λ _. ⌜ now (out .exit) ≡ put (now (out .entry)) at (answer-bytes answer) ⌝ }
 {
     let verdict = answer.verdict;
     let firings = answer.firings;
-    out[i] = model::number(verdict);
-    out[i + 1] = (firings % 256) as u8;
-    out[i + 2] = (firings / 256 % 256) as u8;
+    let forced = answer.forced;
+    let bytes = [
+        model::number(verdict),
+        (firings % 256) as u8,
+        (firings / 256 % 256) as u8,
+        (forced % 256) as u8,
+        (forced / 256 % 256) as u8,
+    ];
+    records::copy(out, at, &bytes);
 }
 
-// Makes the call that begins at byte i and writes its answer there.
+// Makes call k of the list and writes its answer as answer k of the output: a call is three bytes, an answer five.
 fn answer_one<'a>(
     priority: &'a [u8; 192],
     takesContext: &'a [u64; 192],
@@ -73,12 +79,12 @@ fn answer_one<'a>(
     ring: Ring,
     tally: Tally,
     calls: &[u8],
-    i: usize,
+    k: usize,
     out: &mut [u8],
 ) -> Served
     requires { ⌜ Runs n t (columns (now priority) (now takesContext) (now takesPr) (now takesNot) (now givesContext) (now givesPr) (now givesNot) (now inhibContext) (now inhibPr)) (now capacities) (now requests) (now markings) ring ⌝ }
-    requires { ⌜ (i + 2 < length (now calls)) × (i + 2 < length (now out)) ⌝ }
-    ensures { λ r. ⌜ ((net : Net) → Running net n t (columns (now (priority .entry)) (now (takesContext .entry)) (now (takesPr .entry)) (now (takesNot .entry)) (now (givesContext .entry)) (now (givesPr .entry)) (now (givesNot .entry)) (now (inhibContext .entry)) (now (inhibPr .entry))) (now (capacities .entry)) (now (requests .entry)) (now (markings .entry)) ring → Answered net (call-in (getD (now (calls .entry)) i 0) (getD (now (calls .entry)) (i + 1) 0) (getD (now (calls .entry)) (i + 2) 0)) (now (counts .entry)) (now (requests .entry)) (now (markings .entry)) ring tally (now (counts .exit)) (now (requests .exit)) (now (markings .exit)) r (now (out .entry)) i (now (out .exit))) ⌝ }
+    requires { ⌜ (3 * k + 2 < length (now calls)) × (5 * k + 4 < length (now out)) ⌝ }
+    ensures { λ r. ⌜ ((net : Net) → Running net n t (columns (now (priority .entry)) (now (takesContext .entry)) (now (takesPr .entry)) (now (takesNot .entry)) (now (givesContext .entry)) (now (givesPr .entry)) (now (givesNot .entry)) (now (inhibContext .entry)) (now (inhibPr .entry))) (now (capacities .entry)) (now (requests .entry)) (now (markings .entry)) ring → Answered net (call-in (getD (now (calls .entry)) (3 * k) 0) (getD (now (calls .entry)) (3 * k + 1) 0) (getD (now (calls .entry)) (3 * k + 2) 0)) (now (counts .entry)) (now (requests .entry)) (now (markings .entry)) ring tally (now (counts .exit)) (now (requests .exit)) (now (markings .exit)) r (now (out .entry)) (5 * k) (now (out .exit))) ⌝ }
 {
     let s = engine::serve(
         priority,
@@ -98,9 +104,9 @@ fn answer_one<'a>(
         markings,
         ring,
         tally,
-        call_at(calls, i),
+        call_at(calls, 3 * k),
     );
-    write_answer(out, i, s.answer);
+    write_answer(out, 5 * k, s.answer);
     s
 }
 
@@ -110,16 +116,19 @@ pub struct Ending {
     pub tally: Tally,
 }
 
-// Where the call behind the one at byte i begins. The caller knows that this one is whole.
-fn next_call(i: usize, end: usize) -> usize
-    requires { ⌜ i + 3 ≤ end ⌝ }
-    ensures { λ r. ⌜ r ≡ i + 3 ⌝ }
+// The totals before the first call.
+fn no_totals() -> Tally
+    ensures { λ r. ⌜ r ≡ record { granted = 0; refused = 0; undone = 0 } ⌝ }
 {
-    i + 3
+    Tally {
+        granted: 0,
+        refused: 0,
+        undone: 0,
+    }
 }
 
 // Makes the calls of a list on the machine of a net before its first call, and writes their answers to the output's start. The caller's
-// arrays hold the net, the calls are whole, and the output has room for the answers.
+// arrays hold the net, and the output has room for the answers.
 fn answer_all<'a>(
     priority: &'a [u8; 192],
     takesContext: &'a [u64; 192],
@@ -137,7 +146,7 @@ fn answer_all<'a>(
     out: &mut [u8],
 ) -> Ending
     requires { ⌜ Held n t (columns (now priority) (now takesContext) (now takesPr) (now takesNot) (now givesContext) (now givesPr) (now givesNot) (now inhibContext) (now inhibPr)) (now capacities) ⌝ }
-    requires { ⌜ (length (now calls) % 3 ≡ 0) × (length (now calls) ≤ length (now out)) ⌝ }
+    requires { ⌜ 5 * (length (now calls) / 3) ≤ length (now out) ⌝ }
     ensures { λ r. ⌜ ((net : Net) → Describes net n t (columns (now (priority .entry)) (now (takesContext .entry)) (now (takesPr .entry)) (now (takesNot .entry)) (now (givesContext .entry)) (now (givesPr .entry)) (now (givesNot .entry)) (now (inhibContext .entry)) (now (inhibPr .entry))) (now (capacities .entry)) → Ended net (now (calls .entry)) (now (out .entry)) r (now (out .exit))) ⌝ }
 {
     let mut counts = [0u8; 48];
@@ -147,13 +156,9 @@ fn answer_all<'a>(
         first: 0,
         opened: 0,
     };
-    let mut tally = Tally {
-        granted: 0,
-        refused: 0,
-        undone: 0,
-    };
-    let mut i = 0;
-    while i < calls.len() {
+    let mut tally = no_totals();
+    let mut k = 0;
+    while k < calls.len() / 3 {
         let s = answer_one(
             priority,
             takesContext,
@@ -173,12 +178,12 @@ fn answer_all<'a>(
             ring,
             tally,
             calls,
-            i,
+            k,
             out,
         );
         ring = s.ring;
         tally = s.tally;
-        i = next_call(i, calls.len());
+        k += 1;
     }
     Ending { counts, tally }
 }
@@ -234,14 +239,13 @@ fn write_state(out: &mut [u8], at: usize, n: usize, end: Ending)
     records::copy(out, at + n, &totals);
 }
 
-// Runs a list of calls on a fresh engine. The caller's calls are whole and known.
+// Runs a list of calls on a fresh engine. The size of the answers fits: a slice has fewer than 2^63 bytes, and three of a call become five.
 fn run_on(e: Engine, calls: &[u8], out: &mut [u8]) -> usize
-    requires { ⌜ length (now calls) % 3 ≡ 0 ⌝ }
     ensures { λ r. ⌜ ((net : Net) → state e [] ≡ fresh net → Reports net (now (calls .entry)) (now (out .entry)) r (now (out .exit))) ⌝ }
 {
     let n = readings::contexts(e);
     let m = 3 * readings::relation_count(e);
-    let size = calls.len();
+    let size = 5 * (calls.len() / 3);
     if out.len() < n + 12 {
         return 0;
     }

@@ -11,12 +11,13 @@ use lib.ListN.{length}
 use borrow.Author.Tests.{leb-true, leb-false, eqb-true, eq-eqb}
 use Rattle.model.specs.Refusals.{is-granted}
 use Rattle.model.specs.Relations.{Net, size}
-use Rattle.model.specs.Firing.{Outcome, clear, step-limit}
-use Rattle.model.specs.Machine.{Request, Counts, Effect, initial-marking, step-of, asks-nothing, concluded, effect, without-firings}
+use Rattle.model.specs.Transitions.{is-forced}
+use Rattle.model.specs.Firing.{Outcome, forced-count, clear, step-limit}
+use Rattle.model.specs.Machine.{Request, Counts, Effect, initial-marking, step-of, asks-nothing, concluded, effect, without-firings, with-firings}
 use Rattle.model.specs.Claims.{Unfinished, Quiet, Completed, Off, Admitted, Explained}
 use Rattle.model.specs.declared.Verdict.{Verdict}
 use Rattle.model.specs.declared.Verdict.the-variants.{Granted, Refused}
-use Rattle.model.proofs.Tests.{not-true, not-both, and-left, and-right, and-both}
+use Rattle.model.proofs.Tests.{not-true, not-both, and-left, and-right, and-both, passing-bound}
 use Rattle.model.proofs.Runs.{run-firings, quiet-run, unfinished-run}
 
 -- the five ways that a request goes
@@ -24,13 +25,19 @@ pub data Judged (net : Net) (m : Counts) (r : Request) : Type 0 where
   outside : size net ≤ r .context → effect net m r ≡ record { answer = without-firings (Refused 10); counts = m } → Judged net m r
   idle : Off net m r → effect net m r ≡ record { answer = without-firings (Refused 14); counts = m } → Judged net m r
   unfinished : Admitted net m r → Unfinished net (step-of net m r)
-      → effect net m r ≡ record { answer = record { verdict = Refused 11; firings = length (step-of net m r .fired) }; counts = m } → Judged net m r
+      → effect net m r ≡ record { answer = with-firings (step-of net m r) (Refused 11); counts = m } → Judged net m r
   unclear : Admitted net m r → Quiet net (step-of net m r) → clear net (step-of net m r .marking) ≡ false
-      → effect net m r ≡ record { answer = record { verdict = Refused 12; firings = length (step-of net m r .fired) }; counts = m } → Judged net m r
+      → effect net m r ≡ record { answer = with-firings (step-of net m r) (Refused 12); counts = m } → Judged net m r
   completed : Admitted net m r → Completed net (step-of net m r)
       → effect net m r
-      ≡ record { answer = record { verdict = Granted; firings = length (step-of net m r .fired) }; counts = step-of net m r .marking .count }
+      ≡ record { answer = with-firings (step-of net m r) Granted; counts = step-of net m r .marking .count }
       → Judged net m r
+
+abbrev firings-in : Effect → ℕ
+firings-in x = x .answer .firings
+
+abbrev forced-in : Effect → ℕ
+forced-in x = x .answer .forced
 
 other : (j k : ℕ) {v : Verdict} → v ≡ Refused j → v ≡ Refused k → (j ≡ k → ⊥) → ⊥
 other j k p q d = let e : j ≡ k = cc in d e
@@ -116,7 +123,8 @@ module _ (net : Net) (m : Counts) (r : Request) where
             moved = λ p. absurd (never p v);
             kept = λ k p. ap (λ (x : Effect). x .counts) e;
             fired = λ x. absurd (inside-of h x);
-            unfired = λ _. ap (λ (x : Effect). x .answer .firings) e;
+            forced = λ x. absurd (inside-of h x);
+            unfired = λ _. (ap firings-in e, ap forced-in e);
           }
       go (idle h e) =
           let v = ap (λ (x : Effect). x .answer .verdict) e in
@@ -129,7 +137,8 @@ module _ (net : Net) (m : Counts) (r : Request) where
             moved = λ p. absurd (never p v);
             kept = λ k p. ap (λ (x : Effect). x .counts) e;
             fired = λ x. absurd (active-of h x);
-            unfired = λ _. ap (λ (x : Effect). x .answer .firings) e;
+            forced = λ x. absurd (active-of h x);
+            unfired = λ _. (ap firings-in e, ap forced-in e);
           }
       go (unfinished h u e) =
           let v = ap (λ (x : Effect). x .answer .verdict) e in
@@ -141,7 +150,8 @@ module _ (net : Net) (m : Counts) (r : Request) where
             granted = (λ p. absurd (never p v), λ x. absurd (clash (x .1 .quiet) u));
             moved = λ p. absurd (never p v);
             kept = λ k p. ap (λ (x : Effect). x .counts) e;
-            fired = λ _. ap (λ (x : Effect). x .answer .firings) e;
+            fired = λ _. ap firings-in e;
+            forced = λ _. ap forced-in e;
             unfired = λ d. absurd (d h);
           }
       go (unclear h q k e) =
@@ -154,7 +164,8 @@ module _ (net : Net) (m : Counts) (r : Request) where
             granted = (λ p. absurd (never p v), λ x. absurd (not-both _ (x .1 .cleared) k));
             moved = λ p. absurd (never p v);
             kept = λ k p. ap (λ (x : Effect). x .counts) e;
-            fired = λ _. ap (λ (x : Effect). x .answer .firings) e;
+            fired = λ _. ap firings-in e;
+            forced = λ _. ap forced-in e;
             unfired = λ d. absurd (d h);
           }
       go (completed h c e) =
@@ -167,7 +178,8 @@ module _ (net : Net) (m : Counts) (r : Request) where
             granted = (λ _. (h, c), λ _. v);
             moved = λ p. ap (λ (x : Effect). x .counts) e;
             kept = λ k p. absurd (never v p);
-            fired = λ _. ap (λ (x : Effect). x .answer .firings) e;
+            fired = λ _. ap firings-in e;
+            forced = λ _. ap forced-in e;
             unfired = λ d. absurd (d h);
           }
 
@@ -187,19 +199,27 @@ module _ (net : Net) (m : Counts) (r : Request) where
       go (unfinished h u e) = absurd (not-both _ g (ap (λ (x : Effect). is-granted (x .answer .verdict)) e))
       go (unclear h q k e) = absurd (not-both _ g (ap (λ (x : Effect). is-granted (x .answer .verdict)) e))
       go (completed h c e) =
-          record { admitted = h; step = c; counts = ap (λ (x : Effect). x .counts) e; firings = ap (λ (x : Effect). x .answer .firings) e }
+          record { admitted = h; step = c; counts = ap (λ (x : Effect). x .counts) e; firings = ap firings-in e }
 
-  -- the firings of a request are those of its step, or none
-  pub effect-firings : (P : ℕ → Type 0) → P 0 → P (length (end .fired)) → P (effect net m r .answer .firings)
+  -- the firings of a request, and the forced ones among them, are those of its step, or none
+  pub effect-firings : (P : (firings forced : ℕ) → Type 0) → P 0 0 → P (length (end .fired)) (forced-count (end .fired))
+      → P (effect net m r .answer .firings) (effect net m r .answer .forced)
   effect-firings P none-made made = go judged
     where
-      go : Judged net m r → P (effect net m r .answer .firings)
-      go (outside h e) = subst P (sym (ap (λ (x : Effect). x .answer .firings) e)) none-made
-      go (idle h e) = subst P (sym (ap (λ (x : Effect). x .answer .firings) e)) none-made
-      go (unfinished h u e) = subst P (sym (ap (λ (x : Effect). x .answer .firings) e)) made
-      go (unclear h q k e) = subst P (sym (ap (λ (x : Effect). x .answer .firings) e)) made
-      go (completed h c e) = subst P (sym (ap (λ (x : Effect). x .answer .firings) e)) made
+      of-effect : {x : Effect} → effect net m r ≡ x → P (firings-in x) (forced-in x) → P (effect net m r .answer .firings) (effect net m r .answer .forced)
+      of-effect e p = subst (λ (x : Effect). P (firings-in x) (forced-in x)) (sym e) p
+
+      go : Judged net m r → P (effect net m r .answer .firings) (effect net m r .answer .forced)
+      go (outside h e) = of-effect e none-made
+      go (idle h e) = of-effect e none-made
+      go (unfinished h u e) = of-effect e made
+      go (unclear h q k e) = of-effect e made
+      go (completed h c e) = of-effect e made
 
   -- no answer reports more firings than a step may make
   pub firings-bound : effect net m r .answer .firings ≤ 4096
-  firings-bound = effect-firings (λ k. k ≤ 4096) (omega arith) (run-firings net step-limit (initial-marking m r))
+  firings-bound = effect-firings (λ k j. k ≤ 4096) (omega arith) (run-firings net step-limit (initial-marking m r))
+
+  -- nor more forced ones than firings
+  pub forced-bound : effect net m r .answer .forced ≤ effect net m r .answer .firings
+  forced-bound = effect-firings (λ k j. j ≤ k) (omega arith) (passing-bound is-forced (end .fired))

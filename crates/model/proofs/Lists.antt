@@ -1,6 +1,6 @@
 -- What a list of calls does, call by call: each request moves as a request does, and the open list grows and shrinks as the answers say.
 -- Assumes nothing.
-use Prim.Native.Nat.{ℕ, _+_, min}
+use Prim.Native.Nat.{ℕ, _+_, _≤_, min}
 use native.Mathlib.Omega.{arith}
 use mathlib.Core.Path.{_≡_, refl, sym, subst, ap, _∙_}
 use mathlib.Core.Bool.{Bool, true, false, cond}
@@ -16,7 +16,7 @@ use Rattle.model.specs.declared.Verdict.{Verdict}
 use Rattle.model.specs.declared.Verdict.the-variants.{Granted, Refused}
 use Rattle.model.specs.declared.Call.{Call}
 use Rattle.model.specs.declared.Call.the-variants.{Activate, Deactivate, Undo, Settle}
-use Rattle.model.proofs.Effects.{explained}
+use Rattle.model.proofs.Effects.{explained, forced-bound}
 use Rattle.model.proofs.Replay.{reply-net}
 
 -- a request's counts on a board are those that it comes to
@@ -42,6 +42,24 @@ list-made net s p [] = nil
 list-made net s p (c ∷ cs) =
     cons (subst (λ (n : Net). Each (Made n (event s c)) (requested c)) p (event-made s c))
     (list-made net (respond s c .state) (reply-net (s .board) c ∙ p) cs)
+
+-- what an answer tells of forced ones is within its firings
+undo-forced : (b : Board) (es : List Entry) → undo-from b es .answer .forced ≤ undo-from b es .answer .firings
+unfolding undo-from
+undo-forced b [] = omega arith
+undo-forced b (e ∷ es) = omega arith
+
+reply-forced : (b : Board) (c : Call) → reply b c .answer .forced ≤ reply b c .answer .firings
+unfolding reply make-request settle
+reply-forced b (Activate c) = forced-bound (b .net) (b .counts) (activation c)
+reply-forced b (Deactivate c) = forced-bound (b .net) (b .counts) (deactivation c)
+reply-forced b Undo = undo-forced b (b .opened)
+reply-forced b Settle = omega arith
+
+pub list-forced : (s : State) (cs : List Call) → Each (λ (e : Event). e .answer .forced ≤ e .answer .firings) (log s cs)
+unfolding log respond
+list-forced s [] = nil
+list-forced s (c ∷ cs) = cons (reply-forced (s .board) c) (list-forced (respond s c .state) cs)
 
 -- how many are open after a call
 request-open : (b : Board) (r : Request) (g : Bool) → length (cond g (commit b r (effect (b .net) (b .counts) r .counts)) b .opened) ≡ cond g (min (length (b .opened) + 1) 32) (length (b .opened))

@@ -1,5 +1,5 @@
--- An activation lowers no count, and its firings are at most the room that the counts leave; a deactivation raises no count (document 02,
--- request g, for the kinds of document 01).
+-- An activation lowers no count and forces none, and its firings are at most the room that the counts leave; a deactivation raises no count
+-- (document 02, request g, for the kinds of document 01).
 -- Assumes nothing.
 use Prim.Native.Nat.{ℕ, zero, suc, _+_, _-_, _<_, _≤_}
 use native.Mathlib.Nat.{le-of-suc-le-suc, eq-or-lt-of-le, zero-add}
@@ -12,14 +12,14 @@ use lib.ListN.{length}
 use borrow.Author.Tests.{eqb-true, eq-eqb, ne-eqb}
 use Rattle.model.specs.Sets.{singleton, empty-set, bit}
 use Rattle.model.specs.Relations.{Net, size, capacity, related, causes, implies, requires}
-use Rattle.model.specs.Transitions.{Transition, asks-on, act, deac, forced, drop-of}
+use Rattle.model.specs.Transitions.{Transition, is-forced, asks-on, act, deac, forced, drop-of}
 use Rattle.model.specs.Firing.{Marking, Outcome, ready-of, next-of, fire, step-limit}
 use Rattle.model.specs.Machine.{Counts, activation, deactivation, initial-marking, step-of, effect}
 use Rattle.model.specs.Claims.{Fits, Rules}
 use Rattle.model.specs.declared.Verdict.the-variants.{Refused}
-use Rattle.model.proofs.Tests.{or-left, or-right, not-true, decide, zero-or-pos}
+use Rattle.model.proofs.Tests.{or-left, or-right, not-true, decide, zero-or-pos, none-passing}
 use Rattle.model.proofs.Ready.{related-ends, allowed, next-ready, singleton-self, forced-finds}
-use Rattle.model.proofs.Runs.{run-keeps}
+use Rattle.model.proofs.Runs.{run-keeps, run-each}
 use Rattle.model.proofs.Effects.{granted-step, effect-firings, explained}
 use Rattle.model.proofs.Replay.{Grants}
 use Rattle.model.proofs.Shapes.{Shape, is-act, is-deac, is-drop, is-implied, is-required}
@@ -167,14 +167,15 @@ act-left net fits m₀ m up c h e =
     let q = ap bit (ne-eqb x c d) in
     omega arith)
 
-record Rose (net : Net) (m₀ : Counts) (m m′ : Marking) : Type 0 where
-  up : Up net m₀ m′
-  spent : left-over net (m .count) ≡ suc (left-over net (m′ .count))
+record Rose (net : Net) (m₀ : Counts) (m : Marking) (t : Transition) : Type 0 where
+  up : Up net m₀ (fire t m)
+  spent : left-over net (m .count) ≡ suc (left-over net (fire t m .count))
+  unforced : is-forced t ≡ false
 
 -- of a step of an activation only an act(c) fires
-shape-rose : (net : Net) → Fits net → (m₀ : Counts) (m : Marking) → Up net m₀ m → {t : Transition} → Shape net t → ready-of net m t ≡ true → Rose net m₀ m (fire t m)
-unfolding deac drop-of forced
-shape-rose net fits m₀ m up (is-act c h) e = record { up = act-up net fits m₀ m up c h e; spent = act-left net fits m₀ m up c h e }
+shape-rose : (net : Net) → Fits net → (m₀ : Counts) (m : Marking) → Up net m₀ m → {t : Transition} → Shape net t → ready-of net m t ≡ true → Rose net m₀ m t
+unfolding act deac drop-of forced
+shape-rose net fits m₀ m up (is-act c h) e = record { up = act-up net fits m₀ m up c h e; spent = act-left net fits m₀ m up c h e; unforced = refl }
 shape-rose net fits m₀ m up (is-deac c h) e =
     let p = allowed net m (deac (net .rels) c) e c h .taken-not (singleton-self c) in
     let q = up .no-not c in
@@ -193,7 +194,7 @@ shape-rose net fits m₀ m up (is-required a b r) e =
     let k = up .requiring a b r (q .0) in
     absurd (omega (arith, q .1))
 
-next-rose : (net : Net) → Fits net → (m₀ : Counts) (m : Marking) → Up net m₀ m → (t : Transition) → next-of net m ≡ some t → Rose net m₀ m (fire t m)
+next-rose : (net : Net) → Fits net → (m₀ : Counts) (m : Marking) → Up net m₀ m → (t : Transition) → next-of net m ≡ some t → Rose net m₀ m t
 next-rose net fits m₀ m up t e = let x = next-ready net m t e in shape-rose net fits m₀ m up (x .1) (x .0)
 
 -- of an activation's step, after k firings
@@ -237,7 +238,15 @@ module _ (net : Net) (fits : Fits net) (m : Counts) (rules : Rules net m) (c : �
   pub activation-firings : effect net m (activation c) .answer .firings ≤ left-over net m
   activation-firings =
       let s = rises .spent in
-      effect-firings net m (activation c) (λ k. k ≤ left-over net m) (omega arith) (omega arith)
+      effect-firings net m (activation c) (λ k j. k ≤ left-over net m) (omega arith) (omega arith)
+
+  -- and none of them is forced
+  pub activation-forces-none : effect net m (activation c) .answer .forced ≡ 0
+  activation-forces-none =
+      effect-firings net m (activation c) (λ k j. j ≡ 0) refl
+      (none-passing is-forced
+      (run-each net (Up net m) (λ t. is-forced t ≡ false) (λ m′ t up e. let q = next-rose net fits m m′ up t e in (q .unforced, q .up)) step-limit
+      (initial-marking m (activation c)) begins))
 
   -- and where that room is no more than a step may fire, it never meets 11
   pub activation-ends : left-over net m ≤ step-limit → effect net m (activation c) .answer .verdict ≢ Refused 11

@@ -1,7 +1,7 @@
 -- Laws of the tests: what a passed test says, and how to pass one.
 -- (Cases is named so that it is checked before every proof: a changed definition is refused at the cases first.)
 -- Assumes nothing.
-use Prim.Native.Nat.{ℕ, zero, suc, _+_, _<_}
+use Prim.Native.Nat.{ℕ, zero, suc, _+_, _<_, _≤_}
 use native.Mathlib.Nat.{le-of-suc-le-suc, not-suc-le-zero, eq-or-lt-of-le}
 use native.Mathlib.Omega.{arith}
 use mathlib.Core.Path.{_≡_, refl, sym, subst, _∙_, ap₂}
@@ -10,7 +10,7 @@ use mathlib.Core.Bool.{Bool, true, false, _&&_, _||_, false≢true, true≢false
 use mathlib.Core.Option.{Option, none, some, Option·none-ne-some, Option·some-injective}
 use mathlib.Core.List.{List, [], _∷_, _++_}
 use lib.ListN.{length, getD, take, drop}
-use Rattle.model.specs.Sets.{Set, _⇒_, all-below, any, concat-map, range, Each, nil, cons}
+use Rattle.model.specs.Sets.{Set, _⇒_, bit, all-below, any, count-passing, concat-map, range, Each, nil, cons}
 use Rattle.model.specs.Firing.{first}
 use Rattle.model.specs.Cases
 
@@ -171,6 +171,19 @@ any-more f g (x ∷ xs) k e =
 pub none-any {ℓ} : {A : Type ℓ} (f : A → Bool) {xs : List A} → Each (λ (x : A). f x ≡ false) xs → any f xs ≡ false
 none-any f nil = refl
 none-any f (cons p ps) = or-none p (none-any f ps)
+
+-- no more elements pass a test than there are, and none where each fails it
+pub passing-bound {ℓ} : {A : Type ℓ} (f : A → Bool) (xs : List A) → count-passing f xs ≤ length xs
+passing-bound f [] = omega arith
+passing-bound f (x ∷ xs) = one-more (f x) (passing-bound f xs)
+  where
+    one-more : (b : Bool) {j k : ℕ} → j ≤ k → bit b + j ≤ suc k
+    one-more true h = omega arith
+    one-more false h = omega arith
+
+pub none-passing {ℓ} : {A : Type ℓ} (f : A → Bool) {xs : List A} → Each (λ (x : A). f x ≡ false) xs → count-passing f xs ≡ 0
+none-passing f nil = refl
+none-passing f (cons p ps) = ap₂ (λ (b : Bool) (k : ℕ). bit b + k) p (none-passing f ps)
 
 -- tests that agree have the same first element
 pub first-same {ℓ} : {A : Type ℓ} (f g : A → Bool) {xs : List A} → Each (λ (x : A). f x ≡ g x) xs → first f xs ≡ first g xs

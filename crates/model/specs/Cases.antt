@@ -19,14 +19,15 @@ use Rattle.model.specs.declared.Call.the-variants.{Activate, Deactivate,
 use Rattle.model.specs.declared.Verdict.{Verdict}
 use Rattle.model.specs.declared.Verdict.the-variants.{Granted, Refused}
 
--- what a call answers and leaves: its verdict, its firings, and the counts after it, context by context
+-- what a call answers and leaves: its verdict, its firings and how many of them were forced, and the counts after it, context by context
 pub record Line : Type 0 where
   pub verdict : Verdict
   pub firings : ℕ
+  pub forced : ℕ
   pub counts : List ℕ
 
-abbrev line : Verdict → ℕ → List ℕ → Line
-line v k m = record { verdict = v; firings = k; counts = m }
+abbrev line : Verdict → (firings forced : ℕ) → List ℕ → Line
+line v k j m = record { verdict = v; firings = k; forced = j; counts = m }
 
 -- what a case says
 pub data Case : Type 0 where
@@ -72,67 +73,94 @@ pair-image = image edition-1 pair
 abbrev pair-with : ℕ → List ℕ → List ℕ
 pair-with t recs = 3 ∷ 3 ∷ causes ∷ 0 ∷ 1 ∷ recs ++ trailer-bytes edition-1 (trailer edition-1 2 1 t)
 
+-- where 2 goes, 0 and then 1 are forced off, and 1 asks 0 off, which is off already
+abbrev forced-in-vain : Net
+forced-in-vain = record { caps = 1 ∷ 1 ∷ 1 ∷ []; rels = relation requires 0 2 ∷ relation implies 1 2 ∷ relation implies 1 0 ∷ [] }
+
 -- Every case starts with a fresh net. In the comments + activates and - deactivates.
 unfoldable pub cases : List Case
 cases =
     -- P1: +1 lacks what it requires
-    run six-conditions (Activate 1 ∷ []) (line (Refused 12) 0 (0 ∷ 0 ∷ 0 ∷ 0 ∷ 0 ∷ 0 ∷ []) ∷ [])
+    run six-conditions (Activate 1 ∷ []) (line (Refused 12) 0 0 (0 ∷ 0 ∷ 0 ∷ 0 ∷ 0 ∷ 0 ∷ []) ∷ [])
     -- P2: +0 twice, at a capacity of 1
     ∷ run six-conditions (Activate 0 ∷ Activate 0 ∷ [])
-    (line Granted 1 (1 ∷ 0 ∷ 0 ∷ 0 ∷ 0 ∷ 0 ∷ []) ∷ line (Refused 12) 0 (1 ∷ 0 ∷ 0 ∷ 0 ∷ 0 ∷ 0 ∷ []) ∷ [])
+    (line Granted 1 0 (1 ∷ 0 ∷ 0 ∷ 0 ∷ 0 ∷ 0 ∷ []) ∷ line (Refused 12) 0 0 (1 ∷ 0 ∷ 0 ∷ 0 ∷ 0 ∷ 0 ∷ []) ∷ [])
     -- P3: +3 brings 2 and 5 along
-    ∷ run six-conditions (Activate 3 ∷ []) (line Granted 3 (0 ∷ 0 ∷ 1 ∷ 1 ∷ 0 ∷ 1 ∷ []) ∷ [])
-    -- P4: -2 after it takes 3 and 5 down too
+    ∷ run six-conditions (Activate 3 ∷ []) (line Granted 3 0 (0 ∷ 0 ∷ 1 ∷ 1 ∷ 0 ∷ 1 ∷ []) ∷ [])
+    -- P4: -2 after it takes 3 and 5 down too; of the three firings that of 3 is forced
     ∷ run six-conditions (Activate 3 ∷ Deactivate 2 ∷ [])
-    (line Granted 3 (0 ∷ 0 ∷ 1 ∷ 1 ∷ 0 ∷ 1 ∷ []) ∷ line Granted 3 (0 ∷ 0 ∷ 0 ∷ 0 ∷ 0 ∷ 0 ∷ []) ∷ [])
+    (line Granted 3 0 (0 ∷ 0 ∷ 1 ∷ 1 ∷ 0 ∷ 1 ∷ []) ∷ line Granted 3 1 (0 ∷ 0 ∷ 0 ∷ 0 ∷ 0 ∷ 0 ∷ []) ∷ [])
     -- P5: -3 after -5 asks 5 off once more, which a drop swallows
     ∷ run six-conditions (Activate 3 ∷ Deactivate 5 ∷ Deactivate 3 ∷ [])
-    (line Granted 3 (0 ∷ 0 ∷ 1 ∷ 1 ∷ 0 ∷ 1 ∷ [])
-    ∷ line Granted 1 (0 ∷ 0 ∷ 1 ∷ 1 ∷ 0 ∷ 0 ∷ [])
-    ∷ line Granted 3 (0 ∷ 0 ∷ 0 ∷ 0 ∷ 0 ∷ 0 ∷ [])
+    (line Granted 3 0 (0 ∷ 0 ∷ 1 ∷ 1 ∷ 0 ∷ 1 ∷ [])
+    ∷ line Granted 1 0 (0 ∷ 0 ∷ 1 ∷ 1 ∷ 0 ∷ 0 ∷ [])
+    ∷ line Granted 3 0 (0 ∷ 0 ∷ 0 ∷ 0 ∷ 0 ∷ 0 ∷ [])
     ∷ [])
     ∷ fires six-conditions (Activate 3 ∷ Deactivate 5 ∷ []) (deactivation 3) (deactivates ∷ deactivates ∷ drops ∷ [])
-    -- P6: +3 twice, -2 twice; only the last -2 forces
+    -- P6: +3 twice, -2 twice; only the last -2 forces, each token of 3 by itself
     ∷ run six-conditions (Activate 3 ∷ Activate 3 ∷ Deactivate 2 ∷ Deactivate 2 ∷ [])
-    (line Granted 3 (0 ∷ 0 ∷ 1 ∷ 1 ∷ 0 ∷ 1 ∷ [])
-    ∷ line Granted 3 (0 ∷ 0 ∷ 2 ∷ 2 ∷ 0 ∷ 2 ∷ [])
-    ∷ line Granted 1 (0 ∷ 0 ∷ 1 ∷ 2 ∷ 0 ∷ 2 ∷ [])
-    ∷ line Granted 5 (0 ∷ 0 ∷ 0 ∷ 0 ∷ 0 ∷ 0 ∷ [])
+    (line Granted 3 0 (0 ∷ 0 ∷ 1 ∷ 1 ∷ 0 ∷ 1 ∷ [])
+    ∷ line Granted 3 0 (0 ∷ 0 ∷ 2 ∷ 2 ∷ 0 ∷ 2 ∷ [])
+    ∷ line Granted 1 0 (0 ∷ 0 ∷ 1 ∷ 2 ∷ 0 ∷ 2 ∷ [])
+    ∷ line Granted 5 2 (0 ∷ 0 ∷ 0 ∷ 0 ∷ 0 ∷ 0 ∷ [])
     ∷ [])
     -- P7: +3 cannot power an instrument whose battery is out; its firings are rolled back
     ∷ run six-conditions (Activate 0 ∷ Activate 4 ∷ Activate 3 ∷ [])
-    (line Granted 1 (1 ∷ 0 ∷ 0 ∷ 0 ∷ 0 ∷ 0 ∷ [])
-    ∷ line Granted 1 (1 ∷ 0 ∷ 0 ∷ 0 ∷ 1 ∷ 0 ∷ [])
-    ∷ line (Refused 12) 2 (1 ∷ 0 ∷ 0 ∷ 0 ∷ 1 ∷ 0 ∷ [])
+    (line Granted 1 0 (1 ∷ 0 ∷ 0 ∷ 0 ∷ 0 ∷ 0 ∷ [])
+    ∷ line Granted 1 0 (1 ∷ 0 ∷ 0 ∷ 0 ∷ 1 ∷ 0 ∷ [])
+    ∷ line (Refused 12) 2 0 (1 ∷ 0 ∷ 0 ∷ 0 ∷ 1 ∷ 0 ∷ [])
     ∷ [])
     -- P8 as request a of document 02 has it: off where nothing is on, whether a drop could serve it (-5) or not (-2)
-    ∷ run six-conditions (Deactivate 5 ∷ []) (line (Refused 14) 0 (0 ∷ 0 ∷ 0 ∷ 0 ∷ 0 ∷ 0 ∷ []) ∷ [])
-    ∷ run six-conditions (Deactivate 2 ∷ []) (line (Refused 14) 0 (0 ∷ 0 ∷ 0 ∷ 0 ∷ 0 ∷ 0 ∷ []) ∷ [])
+    ∷ run six-conditions (Deactivate 5 ∷ []) (line (Refused 14) 0 0 (0 ∷ 0 ∷ 0 ∷ 0 ∷ 0 ∷ 0 ∷ []) ∷ [])
+    ∷ run six-conditions (Deactivate 2 ∷ []) (line (Refused 14) 0 0 (0 ∷ 0 ∷ 0 ∷ 0 ∷ 0 ∷ 0 ∷ []) ∷ [])
     -- the same in the middle of a list: -5 once more, where 3 still causes it; then the cascade of -3 drops as in P5
     ∷ run six-conditions (Activate 3 ∷ Deactivate 5 ∷ Deactivate 5 ∷ Deactivate 3 ∷ [])
-    (line Granted 3 (0 ∷ 0 ∷ 1 ∷ 1 ∷ 0 ∷ 1 ∷ [])
-    ∷ line Granted 1 (0 ∷ 0 ∷ 1 ∷ 1 ∷ 0 ∷ 0 ∷ [])
-    ∷ line (Refused 14) 0 (0 ∷ 0 ∷ 1 ∷ 1 ∷ 0 ∷ 0 ∷ [])
-    ∷ line Granted 3 (0 ∷ 0 ∷ 0 ∷ 0 ∷ 0 ∷ 0 ∷ [])
+    (line Granted 3 0 (0 ∷ 0 ∷ 1 ∷ 1 ∷ 0 ∷ 1 ∷ [])
+    ∷ line Granted 1 0 (0 ∷ 0 ∷ 1 ∷ 1 ∷ 0 ∷ 0 ∷ [])
+    ∷ line (Refused 14) 0 0 (0 ∷ 0 ∷ 1 ∷ 1 ∷ 0 ∷ 0 ∷ [])
+    ∷ line Granted 3 0 (0 ∷ 0 ∷ 0 ∷ 0 ∷ 0 ∷ 0 ∷ [])
     ∷ [])
     -- such a request counts as refused and is in no history
     ∷ totals six-conditions (Activate 3 ∷ Deactivate 5 ∷ Deactivate 5 ∷ Deactivate 3 ∷ []) 3 1 0
     ∷ leaves-history six-conditions (Activate 3 ∷ Deactivate 5 ∷ Deactivate 5 ∷ Deactivate 3 ∷ []) (6 ∷ 11 ∷ 7 ∷ [])
     -- a drop serves a forced transition too: -2 forces 3, which asks 5 off
     ∷ run six-conditions (Activate 3 ∷ Deactivate 5 ∷ Deactivate 2 ∷ [])
-    (line Granted 3 (0 ∷ 0 ∷ 1 ∷ 1 ∷ 0 ∷ 1 ∷ [])
-    ∷ line Granted 1 (0 ∷ 0 ∷ 1 ∷ 1 ∷ 0 ∷ 0 ∷ [])
-    ∷ line Granted 3 (0 ∷ 0 ∷ 0 ∷ 0 ∷ 0 ∷ 0 ∷ [])
+    (line Granted 3 0 (0 ∷ 0 ∷ 1 ∷ 1 ∷ 0 ∷ 1 ∷ [])
+    ∷ line Granted 1 0 (0 ∷ 0 ∷ 1 ∷ 1 ∷ 0 ∷ 0 ∷ [])
+    ∷ line Granted 3 1 (0 ∷ 0 ∷ 0 ∷ 0 ∷ 0 ∷ 0 ∷ [])
     ∷ [])
     ∷ fires six-conditions (Activate 3 ∷ Deactivate 5 ∷ []) (deactivation 2) (deactivates ∷ forces ∷ drops ∷ [])
+    -- the requested context is forced too: -3 leaves 3 a token without 2
+    ∷ run six-conditions (Activate 3 ∷ Activate 3 ∷ Deactivate 2 ∷ Deactivate 3 ∷ [])
+    (line Granted 3 0 (0 ∷ 0 ∷ 1 ∷ 1 ∷ 0 ∷ 1 ∷ [])
+    ∷ line Granted 3 0 (0 ∷ 0 ∷ 2 ∷ 2 ∷ 0 ∷ 2 ∷ [])
+    ∷ line Granted 1 0 (0 ∷ 0 ∷ 1 ∷ 2 ∷ 0 ∷ 2 ∷ [])
+    ∷ line Granted 5 1 (0 ∷ 0 ∷ 0 ∷ 0 ∷ 0 ∷ 0 ∷ [])
+    ∷ [])
+    -- what one request forced is not told again by the next: by one refused with 14 or 10, or by one that forces none
+    ∷ run six-conditions (Activate 3 ∷ Deactivate 2 ∷ Deactivate 2 ∷ Activate 6 ∷ Activate 3 ∷ [])
+    (line Granted 3 0 (0 ∷ 0 ∷ 1 ∷ 1 ∷ 0 ∷ 1 ∷ [])
+    ∷ line Granted 3 1 (0 ∷ 0 ∷ 0 ∷ 0 ∷ 0 ∷ 0 ∷ [])
+    ∷ line (Refused 14) 0 0 (0 ∷ 0 ∷ 0 ∷ 0 ∷ 0 ∷ 0 ∷ [])
+    ∷ line (Refused 10) 0 0 (0 ∷ 0 ∷ 0 ∷ 0 ∷ 0 ∷ 0 ∷ [])
+    ∷ line Granted 3 0 (0 ∷ 0 ∷ 1 ∷ 1 ∷ 0 ∷ 1 ∷ [])
+    ∷ [])
+    -- -0 forces 1 and both tokens of 4, which require it
+    ∷ run six-conditions (Activate 0 ∷ Activate 1 ∷ Activate 4 ∷ Activate 4 ∷ Deactivate 0 ∷ [])
+    (line Granted 1 0 (1 ∷ 0 ∷ 0 ∷ 0 ∷ 0 ∷ 0 ∷ [])
+    ∷ line Granted 1 0 (1 ∷ 1 ∷ 0 ∷ 0 ∷ 0 ∷ 0 ∷ [])
+    ∷ line Granted 1 0 (1 ∷ 1 ∷ 0 ∷ 0 ∷ 1 ∷ 0 ∷ [])
+    ∷ line Granted 1 0 (1 ∷ 1 ∷ 0 ∷ 0 ∷ 2 ∷ 0 ∷ [])
+    ∷ line Granted 4 3 (0 ∷ 0 ∷ 0 ∷ 0 ∷ 0 ∷ 0 ∷ [])
+    ∷ [])
     -- 5 can go as often as it came, and not once more; the refused request opens nothing, so undo takes back the one before it
     ∷ verdicts six-conditions (Activate 5 ∷ Activate 5 ∷ Deactivate 5 ∷ Deactivate 5 ∷ Deactivate 5 ∷ Undo ∷ Deactivate 5 ∷ [])
     (Granted ∷ Granted ∷ Granted ∷ Granted ∷ Refused 14 ∷ Granted ∷ Granted ∷ [])
     -- 10 goes before 14, on a board where every count is 0; an activation at count 0 never meets 14
     ∷ run six-conditions (Deactivate 6 ∷ Activate 6 ∷ Activate 5 ∷ [])
-    (line (Refused 10) 0 (0 ∷ 0 ∷ 0 ∷ 0 ∷ 0 ∷ 0 ∷ [])
-    ∷ line (Refused 10) 0 (0 ∷ 0 ∷ 0 ∷ 0 ∷ 0 ∷ 0 ∷ [])
-    ∷ line Granted 1 (0 ∷ 0 ∷ 0 ∷ 0 ∷ 0 ∷ 1 ∷ [])
+    (line (Refused 10) 0 0 (0 ∷ 0 ∷ 0 ∷ 0 ∷ 0 ∷ 0 ∷ [])
+    ∷ line (Refused 10) 0 0 (0 ∷ 0 ∷ 0 ∷ 0 ∷ 0 ∷ 0 ∷ [])
+    ∷ line Granted 1 0 (0 ∷ 0 ∷ 0 ∷ 0 ∷ 0 ∷ 1 ∷ [])
     ∷ [])
     -- P9: the smallest image
     ∷ sizes one-context 2 98 98 107
@@ -140,14 +168,14 @@ cases =
     ∷ sizes six-conditions 16 799 784 813
     -- the listing of bench-run, its totals and its history
     ∷ run six-conditions (Activate 0 ∷ Activate 4 ∷ Activate 3 ∷ Deactivate 0 ∷ Undo ∷ Undo ∷ Settle ∷ Undo ∷ [])
-    (line Granted 1 (1 ∷ 0 ∷ 0 ∷ 0 ∷ 0 ∷ 0 ∷ [])
-    ∷ line Granted 1 (1 ∷ 0 ∷ 0 ∷ 0 ∷ 1 ∷ 0 ∷ [])
-    ∷ line (Refused 12) 2 (1 ∷ 0 ∷ 0 ∷ 0 ∷ 1 ∷ 0 ∷ [])
-    ∷ line Granted 2 (0 ∷ 0 ∷ 0 ∷ 0 ∷ 0 ∷ 0 ∷ [])
-    ∷ line Granted 0 (1 ∷ 0 ∷ 0 ∷ 0 ∷ 1 ∷ 0 ∷ [])
-    ∷ line Granted 0 (1 ∷ 0 ∷ 0 ∷ 0 ∷ 0 ∷ 0 ∷ [])
-    ∷ line Granted 0 (1 ∷ 0 ∷ 0 ∷ 0 ∷ 0 ∷ 0 ∷ [])
-    ∷ line (Refused 13) 0 (1 ∷ 0 ∷ 0 ∷ 0 ∷ 0 ∷ 0 ∷ [])
+    (line Granted 1 0 (1 ∷ 0 ∷ 0 ∷ 0 ∷ 0 ∷ 0 ∷ [])
+    ∷ line Granted 1 0 (1 ∷ 0 ∷ 0 ∷ 0 ∷ 1 ∷ 0 ∷ [])
+    ∷ line (Refused 12) 2 0 (1 ∷ 0 ∷ 0 ∷ 0 ∷ 1 ∷ 0 ∷ [])
+    ∷ line Granted 2 1 (0 ∷ 0 ∷ 0 ∷ 0 ∷ 0 ∷ 0 ∷ [])
+    ∷ line Granted 0 0 (1 ∷ 0 ∷ 0 ∷ 0 ∷ 1 ∷ 0 ∷ [])
+    ∷ line Granted 0 0 (1 ∷ 0 ∷ 0 ∷ 0 ∷ 0 ∷ 0 ∷ [])
+    ∷ line Granted 0 0 (1 ∷ 0 ∷ 0 ∷ 0 ∷ 0 ∷ 0 ∷ [])
+    ∷ line (Refused 13) 0 0 (1 ∷ 0 ∷ 0 ∷ 0 ∷ 0 ∷ 0 ∷ [])
     ∷ [])
     ∷ totals six-conditions (Activate 0 ∷ Activate 4 ∷ Activate 3 ∷ Deactivate 0 ∷ Undo ∷ Undo ∷ Settle ∷ Undo ∷ []) 3 2 2
     ∷ leaves-history six-conditions (Activate 0 ∷ Activate 4 ∷ Activate 3 ∷ Deactivate 0 ∷ Undo ∷ Undo ∷ Settle ∷ Undo ∷ []) (0 ∷ [])
@@ -158,7 +186,7 @@ cases =
     ∷ totals six-conditions (Activate 0 ∷ Activate 0 ∷ Activate 6 ∷ Undo ∷ []) 1 2 1
     -- a ring of three implications at capacity 2: refused when all are full, as the ring of 16 is at 255
     ∷ run (record { caps = 2 ∷ 2 ∷ 2 ∷ []; rels = relation implies 0 1 ∷ relation implies 1 2 ∷ relation implies 2 0 ∷ [] }) (Activate 0 ∷ [])
-    (line (Refused 12) 6 (0 ∷ 0 ∷ 0 ∷ []) ∷ [])
+    (line (Refused 12) 6 0 (0 ∷ 0 ∷ 0 ∷ []) ∷ [])
     -- the records of the six conditions: act and deac of 0 to 5, then the extra transitions of 1 requires 0, 3 implies 2,
     -- 4 requires 0 and 3 causes 5
     ∷ rows six-conditions
@@ -262,48 +290,49 @@ cases =
     ∷ leaves-output (7 ∷ []) [] (replicate 106 9) 0 (replicate 106 9)
     -- calls on the net of a refused load
     ∷ run (load edition-1 [] .net) (Activate 0 ∷ Deactivate 0 ∷ Undo ∷ Settle ∷ [])
-    (line (Refused 10) 0 [] ∷ line (Refused 10) 0 [] ∷ line (Refused 13) 0 [] ∷ line Granted 0 [] ∷ [])
+    (line (Refused 10) 0 0 [] ∷ line (Refused 10) 0 0 [] ∷ line (Refused 13) 0 0 [] ∷ line Granted 0 0 [] ∷ [])
     -- 10 is met before anything fires, at n and beyond
     ∷ verdicts six-conditions (Activate 6 ∷ Deactivate 255 ∷ []) (Refused 10 ∷ Refused 10 ∷ [])
     -- the second wrong net: the required 1 that act(0) takes and gives back is no activation of 1
     ∷ run (record { caps = 2 ∷ 2 ∷ []; rels = relation requires 0 1 ∷ relation causes 1 0 ∷ [] }) (Activate 1 ∷ [])
-    (line Granted 2 (1 ∷ 1 ∷ []) ∷ [])
+    (line Granted 2 0 (1 ∷ 1 ∷ []) ∷ [])
     -- the fourth wrong net: an arc of an earlier relation at a later implication, and at a later requirement
     ∷ run (record { caps = 3 ∷ 3 ∷ 2 ∷ []; rels = relation implies 1 2 ∷ relation implies 1 0 ∷ [] }) (Activate 1 ∷ Deactivate 0 ∷ [])
-    (line Granted 3 (1 ∷ 1 ∷ 1 ∷ []) ∷ line Granted 3 (0 ∷ 0 ∷ 0 ∷ []) ∷ [])
+    (line Granted 3 0 (1 ∷ 1 ∷ 1 ∷ []) ∷ line Granted 3 1 (0 ∷ 0 ∷ 0 ∷ []) ∷ [])
     ∷ run (record { caps = 3 ∷ 3 ∷ 3 ∷ []; rels = relation causes 0 1 ∷ relation requires 0 2 ∷ [] })
     (Activate 2 ∷ Activate 0 ∷ Deactivate 2 ∷ [])
-    (line Granted 1 (0 ∷ 0 ∷ 1 ∷ []) ∷ line Granted 2 (1 ∷ 1 ∷ 1 ∷ []) ∷ line Granted 3 (0 ∷ 0 ∷ 0 ∷ []) ∷ [])
+    (line Granted 1 0 (0 ∷ 0 ∷ 1 ∷ []) ∷ line Granted 2 0 (1 ∷ 1 ∷ 1 ∷ []) ∷ line Granted 3 1 (0 ∷ 0 ∷ 0 ∷ []) ∷ [])
     -- the lowest number, not the highest
     ∷ run (record { caps = 2 ∷ 3 ∷ []; rels = relation implies 1 0 ∷ relation requires 0 1 ∷ [] }) (Activate 1 ∷ Deactivate 1 ∷ [])
-    (line Granted 2 (1 ∷ 1 ∷ []) ∷ line Granted 2 (0 ∷ 0 ∷ []) ∷ [])
+    (line Granted 2 0 (1 ∷ 1 ∷ []) ∷ line Granted 2 0 (0 ∷ 0 ∷ []) ∷ [])
     ∷ run
     (record { caps = 1 ∷ 1 ∷ 1 ∷ 1 ∷ []; rels = relation causes 0 1 ∷ relation causes 0 2 ∷ relation excludes 1 2 ∷ relation causes 1 3 ∷ [] })
     (Activate 0 ∷ [])
-    (line (Refused 12) 3 (0 ∷ 0 ∷ 0 ∷ 0 ∷ []) ∷ [])
+    (line (Refused 12) 3 0 (0 ∷ 0 ∷ 0 ∷ 0 ∷ []) ∷ [])
     -- the extra transitions in the order of the relations
     ∷ run (record { caps = 3 ∷ 2 ∷ 3 ∷ []; rels = relation implies 0 1 ∷ relation requires 2 1 ∷ relation implies 0 2 ∷ [] })
     (Activate 0 ∷ Deactivate 1 ∷ [])
-    (line Granted 3 (1 ∷ 1 ∷ 1 ∷ []) ∷ line Granted 3 (0 ∷ 0 ∷ 0 ∷ []) ∷ [])
-    ∷ run (record { caps = 1 ∷ 1 ∷ 1 ∷ []; rels = relation requires 0 2 ∷ relation implies 1 2 ∷ relation implies 1 0 ∷ [] })
-    (Activate 1 ∷ Deactivate 2 ∷ [])
-    (line Granted 3 (1 ∷ 1 ∷ 1 ∷ []) ∷ line (Refused 12) 3 (1 ∷ 1 ∷ 1 ∷ []) ∷ [])
+    (line Granted 3 0 (1 ∷ 1 ∷ 1 ∷ []) ∷ line Granted 3 1 (0 ∷ 0 ∷ 0 ∷ []) ∷ [])
+    -- the same of two forced ones, which are told though the step is rolled back; the request behind it forces none
+    ∷ run forced-in-vain (Activate 1 ∷ Deactivate 2 ∷ Deactivate 1 ∷ [])
+    (line Granted 3 0 (1 ∷ 1 ∷ 1 ∷ []) ∷ line (Refused 12) 3 2 (1 ∷ 1 ∷ 1 ∷ []) ∷ line Granted 3 0 (0 ∷ 0 ∷ 0 ∷ []) ∷ [])
+    ∷ fires forced-in-vain (Activate 1 ∷ []) (deactivation 2) (deactivates ∷ forces ∷ forces ∷ [])
     -- a forced transition never asks off what inhibits it, that of a requirement neither
     ∷ run (record { caps = 2 ∷ 1 ∷ []; rels = relation causes 1 0 ∷ relation implies 1 0 ∷ [] }) (Activate 1 ∷ Deactivate 0 ∷ [])
-    (line Granted 2 (1 ∷ 1 ∷ []) ∷ line Granted 2 (0 ∷ 0 ∷ []) ∷ [])
+    (line Granted 2 0 (1 ∷ 1 ∷ []) ∷ line Granted 2 1 (0 ∷ 0 ∷ []) ∷ [])
     ∷ run (record { caps = 3 ∷ 2 ∷ []; rels = relation causes 1 0 ∷ relation requires 1 0 ∷ [] })
     (Activate 0 ∷ Activate 1 ∷ Deactivate 0 ∷ Deactivate 0 ∷ [])
-    (line Granted 1 (1 ∷ 0 ∷ [])
-    ∷ line Granted 2 (2 ∷ 1 ∷ [])
-    ∷ line Granted 1 (1 ∷ 1 ∷ [])
-    ∷ line Granted 2 (0 ∷ 0 ∷ [])
+    (line Granted 1 0 (1 ∷ 0 ∷ [])
+    ∷ line Granted 2 0 (2 ∷ 1 ∷ [])
+    ∷ line Granted 1 0 (1 ∷ 1 ∷ [])
+    ∷ line Granted 2 1 (0 ∷ 0 ∷ [])
     ∷ [])
     ∷ run (record { caps = 3 ∷ 2 ∷ []; rels = relation requires 1 0 ∷ relation implies 1 0 ∷ [] })
     (Activate 0 ∷ Activate 1 ∷ Deactivate 0 ∷ Deactivate 0 ∷ [])
-    (line Granted 1 (1 ∷ 0 ∷ [])
-    ∷ line Granted 2 (2 ∷ 1 ∷ [])
-    ∷ line Granted 1 (1 ∷ 1 ∷ [])
-    ∷ line Granted 2 (0 ∷ 0 ∷ [])
+    (line Granted 1 0 (1 ∷ 0 ∷ [])
+    ∷ line Granted 2 0 (2 ∷ 1 ∷ [])
+    ∷ line Granted 1 0 (1 ∷ 1 ∷ [])
+    ∷ line Granted 2 1 (0 ∷ 0 ∷ [])
     ∷ [])
     ∷ []
 
@@ -331,6 +360,7 @@ same-lines n (e ∷ es) [] = false
 same-lines n (e ∷ es) (l ∷ ls) =
     same-verdict (e .answer .verdict) (l .verdict)
     && eqb (e .answer .firings) (l .firings)
+    && eqb (e .answer .forced) (l .forced)
     && equal-lists (map (e .counts) (range 0 n)) (l .counts)
     && same-lines n es ls
 

@@ -14,7 +14,7 @@ use Rattle.model.specs.Sets.{Each, IsByte, any, count-passing}
 use Rattle.model.specs.Refusals
 use Rattle.model.specs.Refusals.{Check, refuse, first-refusal, is-granted}
 use Rattle.model.specs.Relations.{Net, size, relation-count, capacity, empty-net, related, has-zero, misfit, repeats, excludes, implies, requires}
-use Rattle.model.specs.Transitions.{Transition}
+use Rattle.model.specs.Transitions.{Transition, is-forced}
 use Rattle.model.specs.Firing.{Marking, Outcome, next-of, clear}
 use Rattle.model.specs.Machine.{Request, Counts, Event, State, Tally, zeros, step-of, effect, without-firings, read-count, begin, after, log, standing, requested, history, replayed-calls, requests, adds-granted, adds-refused, adds-undone}
 use Rattle.model.specs.Image.{Format, Loaded, Composed, image, bad-sizes, relations-size, records-size}
@@ -121,9 +121,10 @@ pub record Explained (net : Net) (m : Counts) (r : Request) : Type 0 where
   -- a granted request leaves the counts of its step's end, a refused one those before it
   pub moved : effect net m r .answer .verdict ≡ Granted → effect net m r .counts ≡ step-of net m r .marking .count
   pub kept : (k : ℕ) → effect net m r .answer .verdict ≡ Refused k → effect net m r .counts ≡ m
-  -- the firings reported are those made
+  -- the firings reported are those made, and the forced ones are those among them
   pub fired : Admitted net m r → effect net m r .answer .firings ≡ length (step-of net m r .fired)
-  pub unfired : (Admitted net m r → ⊥) → effect net m r .answer .firings ≡ 0
+  pub forced : Admitted net m r → effect net m r .answer .forced ≡ count-passing is-forced (step-of net m r .fired)
+  pub unfired : (Admitted net m r → ⊥) → (effect net m r .answer .firings ≡ 0) × (effect net m r .answer .forced ≡ 0)
 
 -- ---- demand 3: what holds after every list of calls
 
@@ -199,12 +200,12 @@ events net m₀ cs = log (begin net m₀) cs
 
 -- Demand 3, for the calls of a list taken together. A freshly loaded net starts at zeros (theorem demand3-loaded); the theorem demand3 has
 -- it from any start that keeps the rules. Besides what the papers ask, `listed` and `beyond` say where the history and the other numbers
--- stand.
+-- stand, and `forced-bound` what bounds the forced ones.
 pub record Demand3 (net : Net) (m₀ : Counts) (cs : List Call) : Type 0 where
   pub net-kept : ending net m₀ cs .board .net ≡ net
   -- replaying the history gives these very counts
   pub replayed : ending net m₀ (replayed-calls (events net m₀ cs)) .board .counts ≡ ending net m₀ cs .board .counts
-  -- and makes the same events again: each request granted, with its firings and the counts that it had before and after
+  -- and makes the same events again: each request granted, with its firings, the forced ones among them, and the counts before and after it
   pub regranted : events net m₀ (replayed-calls (events net m₀ cs)) ≡ standing [] (events net m₀ cs)
   pub all-granted : Each (λ (e : Event). is-granted (e .answer .verdict) ≡ true) (standing [] (events net m₀ cs))
   -- none of them asked to switch off what was off
@@ -217,6 +218,8 @@ pub record Demand3 (net : Net) (m₀ : Counts) (cs : List Call) : Type 0 where
   pub open-bound : length (ending net m₀ cs .board .opened) ≤ 32
   -- every request of the list was answered, and moved, as a request does
   pub made : Each (λ (e : Event). Each (Made net e) (requested (e .call))) (events net m₀ cs)
+  -- no answer tells of more forced ones than of firings
+  pub forced-bound : Each (λ (e : Event). e .answer .forced ≤ e .answer .firings) (events net m₀ cs)
   pub rules : Rules net (ending net m₀ cs .board .counts)
   -- a number that is no context keeps its count
   pub beyond : (c : ℕ) → size net ≤ c → ending net m₀ cs .board .counts c ≡ m₀ c

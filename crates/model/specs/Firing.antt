@@ -6,9 +6,9 @@ use mathlib.Core.Bool.{Bool, true, false, _&&_, not}
 use mathlib.Core.Option.{Option, none, some}
 use mathlib.Core.List.{List, [], _∷_}
 use lib.Dec.{eqb, ltb}
-use Rattle.model.specs.Sets.{Set, _⇒_, bit, all-below, any}
+use Rattle.model.specs.Sets.{Set, _⇒_, bit, all-below, any, count-passing}
 use Rattle.model.specs.Relations.{Net, size, capacity}
-use Rattle.model.specs.Transitions.{Transition, transitions}
+use Rattle.model.specs.Transitions.{Transition, is-forced, transitions}
 
 -- how many tokens each context place, each Pr(c) and each Pr¬(c) holds
 pub record Marking : Type 0 where
@@ -85,6 +85,10 @@ pub record Outcome : Type 0 where
   pub quiet : Bool
   pub fired : List Transition
   pub marking : Marking
+
+-- how many of these firings are of forced transitions: what document 02's request b wants to know of a step
+abbrev pub forced-count : List Transition → ℕ
+forced-count = count-passing is-forced
 
 -- whether nothing was found
 abbrev pub is-none : Option Transition → Bool

@@ -9,7 +9,7 @@ use lib.ListN.{length, take, drop}
 use Rattle.model.specs.Sets.{singleton, bit, concat-map, drop-last}
 use Rattle.model.specs.Refusals.{Check, refuse, first-refusal, is-granted, no-such-context, step-limit-met, tokens-left, nothing-open, already-off}
 use Rattle.model.specs.Relations.{Net, size}
-use Rattle.model.specs.Firing.{Marking, Outcome, fire-until-quiet, step-limit, clear}
+use Rattle.model.specs.Firing.{Marking, Outcome, forced-count, fire-until-quiet, step-limit, clear}
 use Rattle.model.specs.declared.Call.{Call}
 use Rattle.model.specs.declared.Call.the-variants.{Activate, Deactivate, Undo, Settle}
 use Rattle.model.specs.declared.Verdict.{Verdict}
@@ -73,14 +73,18 @@ pub record Effect : Type 0 where
 
 -- an answer where nothing fired: that of undo, of settling, and of a request refused before its step
 abbrev pub without-firings : Verdict → Answer
-without-firings v = record { verdict = v; firings = 0 }
+without-firings v = record { verdict = v; firings = 0; forced = 0 }
+
+-- The answer to a request whose step ended so: it tells the firings, and how many of them were forced (document 02, request b).
+abbrev pub with-firings : Outcome → Verdict → Answer
+with-firings o v = record { verdict = v; firings = length (o .fired); forced = forced-count (o .fired) }
 
 -- What a request comes to when its step ended so, with this verdict: a granted one leaves the counts of the step's end, any other rolls
 -- back to those before; the firings are reported in both.
 unfoldable pub concluded : Counts → Outcome → Verdict → Effect
 concluded m o v =
     record {
-      answer = record { verdict = v; firings = length (o .fired) };
+      answer = with-firings o v;
       counts = cond (is-granted v) (o .marking .count) m;
     }
 

@@ -3,7 +3,7 @@
 -- Every arc has weight 1, and since a set is a test, an arc that two relations ask for is one arc.
 -- Assumes nothing.
 use Prim.Native.Nat.{ℕ}
-use mathlib.Core.Bool.{_&&_, _||_, not, cond}
+use mathlib.Core.Bool.{Bool, true, false, _&&_, _||_, not, cond}
 use mathlib.Core.List.{List, [], _∷_, _++_}
 use lib.Dec.{eqb}
 use Rattle.model.specs.Sets.{Set, empty-set, singleton, concat-map, range}
@@ -29,6 +29,16 @@ pub record Transition : Type 0 where
   pub givesNot : Set
   pub inhibContext : Set
   pub inhibPr : Set
+
+-- whether a transition is a forced one
+abbrev pub forces-off : Role → Bool
+forces-off activates = false
+forces-off deactivates = false
+forces-off forces = true
+forces-off drops = false
+
+abbrev pub is-forced : Transition → Bool
+is-forced t = forces-off (t .role)
 
 -- what act(a) asks on: whatever a causes or implies
 unfoldable pub asks-on : List Relation → ℕ → Set

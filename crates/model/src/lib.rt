@@ -27,10 +27,11 @@ pub fn number(verdict: Verdict) -> u8
     }
 }
 
-// What a call is answered: the verdict, and how many transitions fired, also where they were rolled back.
+// What a call is answered: the verdict, how many transitions fired, also where they were rolled back, and how many of these were forced.
 pub struct Answer {
     pub verdict: Verdict,
     pub firings: usize,
+    pub forced: usize,
 }
 
 // The refusals by name; what each looks for is in specs/.

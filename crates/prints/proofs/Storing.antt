@@ -54,6 +54,13 @@ length-word n h = decimal-length 19 n (omega arith)
 pub length-byte : (n : ℕ) → n < 256 → length (decimal n) ≤ 3
 length-byte n h = decimal-length 2 n (omega arith)
 
+-- a sign and a number of 64 bits, from a place up to m on, take at most 21 bytes
+pub number-fits : {at m size n : ℕ} → at ≤ m → n < 2 ^ 64 → m + 21 ≤ size → at + suc (length (decimal n)) ≤ size
+number-fits {n = n} p h k = omega (arith, length-word n h)
+
+pub number-end : {before after : List ℕ} {at m r sign n : ℕ} → at ≤ m → n < 2 ^ 64 → Stored before at (sign ∷ decimal n) after r → r ≤ m + 21
+number-end {n = n} p h s = omega (arith, s .end, length-word n h)
+
 -- a call's text: a letter, or a sign and at most 20 digits
 pub stored-call : {before after text : List ℕ} {r : ℕ} (call k : Call) → call ≡ k → text ≡ call-text k → length text ≤ 21 → Stored before 0 text after r
     → Stored before 0 (call-text call) after r × (r ≤ 21)
@@ -78,11 +85,11 @@ stored-active {a} {b} {d} {at} {m} {r} c count p h k s t = (
 )
 
 -- the parts of an answer
-pub answered : {o a b d e f : List ℕ} {i j k l r : ℕ} (call : Call) (v : Verdict) (refusal firings n : ℕ) (counts : Counts)
+pub answered : {o a b d e f g : List ℕ} {i j k l m r : ℕ} (call : Call) (v : Verdict) (refusal firings forced n : ℕ) (counts : Counts)
     → refusal ≡ verdict-number v → r ≤ length o → Stored o 0 (call-text call) a i → Stored a i (space ∷ decimal refusal) b j
-    → Stored b j (space ∷ decimal firings) d k → Stored d k (contexts-text n counts) e l → Stored e l (line-end ∷ []) f r
-    → Written (answer-text call v firings n counts) o f r
+    → Stored b j (space ∷ decimal firings) d k → Stored d k (space ∷ decimal forced) e l → Stored e l (contexts-text n counts) f m
+    → Stored f m (line-end ∷ []) g r → Written (answer-text call v firings forced n counts) o g r
 unfolding answer-text
-answered {o} {a} {b} {i = i} {j = j} call v refusal firings n counts p h s t u w x =
-    let t′ : Stored a i (space ∷ decimal (verdict-number v)) b j = subst (λ (m : ℕ). Stored a i (space ∷ decimal m) b j) p t in
-    written h (stored-then (stored-then (stored-then (stored-then s t′) u) w) x)
+answered {a = a} {b = b} {i = i} {j = j} call v refusal firings forced n counts p h s t u w x y =
+    let t′ : Stored a i (space ∷ decimal (verdict-number v)) b j = subst (λ (q : ℕ). Stored a i (space ∷ decimal q) b j) p t in
+    written h (stored-then (stored-then (stored-then (stored-then (stored-then s t′) u) w) x) y)

@@ -1,4 +1,4 @@
--- The lines that the program bench-run prints (document 01, "Six conditions").
+-- The lines that the program bench-run prints (document 01, "Six conditions"). Document 02, request b adds the field of the forced firings.
 -- Assumes nothing.
 use Prim.Native.Nat.{ℕ, zero, suc, _+_}
 use Prim.Native.Char.{code}
@@ -34,10 +34,16 @@ context-text c (suc k) = space ∷ decimal c ++ (colon ∷ decimal (suc k))
 unfoldable pub contexts-text : ℕ → Counts → List ℕ
 contexts-text n counts = concat-map (λ c. context-text c (counts c)) (range 0 n)
 
--- the line that answers a call: the call, 0 or the refusal's number, the firings, the active contexts, parted by one space
-unfoldable pub answer-text : Call → Verdict → (firings n : ℕ) → Counts → List ℕ
-answer-text k v firings n counts =
-    call-text k ++ (space ∷ decimal (verdict-number v)) ++ (space ∷ decimal firings) ++ contexts-text n counts ++ (line-end ∷ [])
+-- the line that answers a call: the call, 0 or the refusal's number, the firings, the forced ones among them, the active contexts, parted by
+-- one space
+unfoldable pub answer-text : Call → Verdict → (firings forced n : ℕ) → Counts → List ℕ
+answer-text k v firings forced n counts =
+    call-text k
+    ++ (space ∷ decimal (verdict-number v))
+    ++ (space ∷ decimal firings)
+    ++ (space ∷ decimal forced)
+    ++ contexts-text n counts
+    ++ (line-end ∷ [])
 
 -- the line that answers a line which is no call
 abbrev pub no-call-text : List ℕ

@@ -9,20 +9,22 @@ ghost use Rattle.lines.specs.Decimals.{decimal};
 ghost use Rattle.lines.specs.Calls.{call-text};
 ghost use Rattle.prints.specs.Answers.{answer-text, no-call-text, context-text, contexts-text, Written, Stored};
 
-// The line that answers a call, at the start of out. The longest takes 383 bytes.
+// The line that answers a call, at the start of out. The longest takes 404 bytes.
 pub fn answer(
     out: &mut [u8; 512],
     call: Call,
     verdict: Verdict,
     firings: usize,
+    forced: usize,
     n: usize,
     counts: [u8; 48],
 ) -> usize
-    ensures { λ r. ⌜ Written (answer-text call verdict firings n (λ c. getD counts c 0)) (now (out .entry)) (now (out .exit)) r ⌝ }
+    ensures { λ r. ⌜ Written (answer-text call verdict firings forced n (λ c. getD counts c 0)) (now (out .entry)) (now (out .exit)) r ⌝ }
 {
     let at = put_call(out, call);
     let at = put_number(out, at, b' ', model::number(verdict) as usize);
     let at = put_number(out, at, b' ', firings);
+    let at = put_number(out, at, b' ', forced);
     let at = put_contexts(out, at, n, counts);
     put(out, at, b'\n')
 }

@@ -21,6 +21,7 @@ pub fn undo(mut e: Engine) -> Reply
             answer: Answer {
                 verdict: Verdict::Refused(NOTHING_OPEN),
                 firings: 0,
+                forced: 0,
             },
             engine: e,
         };
@@ -41,6 +42,7 @@ pub fn undo(mut e: Engine) -> Reply
         answer: Answer {
             verdict: Verdict::Granted,
             firings: 0,
+            forced: 0,
         },
         engine: e,
     }
@@ -57,6 +59,7 @@ pub fn settle(mut e: Engine) -> Reply
         answer: Answer {
             verdict: Verdict::Granted,
             firings: 0,
+            forced: 0,
         },
         engine: e,
     }

@@ -16,7 +16,8 @@ use Rattle.model.specs.Sets.{Set, singleton, empty-set, bit, number, all-below}
 use Rattle.model.specs.Refusals.{refuse, first-refusal, no-such-context, already-off, step-limit-met, tokens-left}
 use Rattle.model.specs.Relations.{Net, size}
 use Rattle.model.specs.Firing.{Marking, Outcome, holds-token, is-empty, clear, fire-until-quiet, step-limit}
-use Rattle.model.specs.Machine.{Request, Counts, Effect, initial-marking, step-of, concluded, effect, without-firings}
+use Rattle.model.specs.Machine.{Request, Counts, Effect, initial-marking, step-of, concluded, effect, without-firings, with-firings}
+use Rattle.model.specs.declared.Answer.{Answer}
 use Rattle.model.specs.declared.Verdict.{Verdict}
 use Rattle.model.specs.declared.Verdict.the-variants.{Granted, Refused}
 use Rattle.model.proofs.Masks.{number-cong}
@@ -161,9 +162,9 @@ effect-at net counts r e q = ap (effect-by net counts r) (ap (λ (k : ℕ). verd
 
 -- a request that is refused before its step
 pub judges-before : (net : Net) (counts : List ℕ) (r : Request) {n k : ℕ} → size net ≡ n → Refused k ≡ verdict-at n counts r
-    → Judges (record { verdict = Refused k; firings = 0 }) counts (effect net (counts-of counts) r)
+    → Judges (without-firings (Refused k)) counts (effect net (counts-of counts) r)
 judges-before net counts r {n} {k} e q =
-    subst (Judges (record { verdict = Refused k; firings = 0 }) counts) (sym (effect-at net counts r e q)) (record { answer = refl; counts = refl })
+    subst (Judges (without-firings (Refused k)) counts) (sym (effect-at net counts r e q)) (record { answer = refl; counts = refl })
 
 -- the verdict, by the two tests when the step has ended
 abbrev pub verdict-by : (quiet clear : Bool) → Verdict
@@ -190,16 +191,22 @@ module _ {net : Net} {n t : ℕ} {cols : Columns} {capacities counts temps count
   effect-with : (v : Verdict) → v ≡ verdict-by (e .quiet) (eqb (e .marked .pr) 0 && eqb (e .marked .prNot) 0) → effect net (counts-of counts) r ≡ concluded (counts-of counts) o v
   effect-with v q = effect-is ∙ ap (concluded (counts-of counts) o) (sym (q ∙ verdict-is))
 
+  -- the answer that tells of the step
+  abbrev told : Verdict → Answer
+  told v = record { verdict = v; firings = e .firings; forced = e .forced }
+
+  told-is : (v : Verdict) → told v ≡ with-firings o v
+  told-is v = ap₂ (λ (k j : ℕ). record { verdict = v; firings = k; forced = j }) (ended .firings) (ended .forced)
+
   pub judges-granted : Granted ≡ verdict-by (e .quiet) (eqb (e .marked .pr) 0 && eqb (e .marked .prNot) 0)
-      → Judges (record { verdict = Granted; firings = e .firings }) counts′ (effect net (counts-of counts) r)
+      → Judges (told Granted) counts′ (effect net (counts-of counts) r)
   unfolding concluded
   judges-granted q =
-      subst (Judges (record { verdict = Granted; firings = e .firings }) counts′) (sym (effect-with Granted q))
-      (record { answer = ap (λ (k : ℕ). record { verdict = Granted; firings = k }) (ended .firings); counts = ap (λ (m : Marking). m .count) (ended .marking) })
+      subst (Judges (told Granted) counts′) (sym (effect-with Granted q))
+      (record { answer = told-is Granted; counts = ap (λ (m : Marking). m .count) (ended .marking) })
 
   pub judges-refused : {k : ℕ} → Refused k ≡ verdict-by (e .quiet) (eqb (e .marked .pr) 0 && eqb (e .marked .prNot) 0)
-      → Judges (record { verdict = Refused k; firings = e .firings }) counts (effect net (counts-of counts) r)
+      → Judges (told (Refused k)) counts (effect net (counts-of counts) r)
   unfolding concluded
   judges-refused {k} q =
-      subst (Judges (record { verdict = Refused k; firings = e .firings }) counts) (sym (effect-with (Refused k) q))
-      (record { answer = ap (λ (j : ℕ). record { verdict = Refused k; firings = j }) (ended .firings); counts = refl })
+      subst (Judges (told (Refused k)) counts) (sym (effect-with (Refused k) q)) (record { answer = told-is (Refused k); counts = refl })

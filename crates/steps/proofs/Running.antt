@@ -1,6 +1,6 @@
 -- A step on the arrays, one firing at a time.
 -- Assumes nothing.
-use Prim.Native.Nat.{ℕ, _+_, _-_, _≤_, _<_}
+use Prim.Native.Nat.{ℕ, suc, _+_, _-_, _≤_, _<_}
 use mathlib.Core.Bool.{Bool, true, false, _&&_}
 use mathlib.Core.Path.{_≡_, sym, ap, subst, _∙_}
 use mathlib.Core.List.{List}
@@ -14,7 +14,7 @@ use Rattle.sets.specs.Sets.{members, upto}
 use Rattle.sets.proofs.Laws.{contained}
 use Rattle.model.specs.Sets.{Set, bit, number}
 use Rattle.model.specs.Relations.{Net, size, capacity}
-use Rattle.model.specs.Transitions.{Transition, transitions}
+use Rattle.model.specs.Transitions.{Transition, is-forced, transitions}
 use Rattle.model.specs.Firing.{Marking, below-capacity, fire, fire-until-quiet, step-limit}
 use Rattle.model.proofs.Masks.{number-cong}
 use Rattle.model.proofs.Tests.{each-getD}
@@ -24,9 +24,11 @@ use Rattle.model.proofs.Loops.{start, more, loop-quiet, loop-stopped}
 use Rattle.net.specs.Tables.{Columns, row, blank}
 use Rattle.transitions.specs.Arcs.{Holds}
 use Rattle.transitions.specs.declared.Arcs.{Arcs}
+use Rattle.transitions.proofs.Telling.{forced-told}
 use Rattle.walk.specs.Markings.{marking, below, Shows, Stands, AtMost}
 use Rattle.walk.specs.Walks.{passes, ready-row, Passing, Fires, Chooses}
 use Rattle.firing.specs.Moves.{reading, Firable, Fired}
+use Rattle.firing.specs.declared.firing.After.{After}
 use Rattle.steps.specs.Steps.{Describes, Starts, Outcomes, Ends}
 use Rattle.walk.specs.declared.Marked.{Marked}
 use Rattle.walk.specs.declared.Found.{Found}
@@ -50,7 +52,7 @@ reading-fires n few a t h b m = λ i.
       prNot = λ c. m .prNot c - bit (set-is n few (t .takesNot) (b .takesNot) (h .takesNot) c i) + bit (set-is n few (t .givesNot) (b .givesNot) (h .givesNot) c i);
     }
 
--- a firing puts at most one token more on a temporary place
+-- a firing puts at most one token more on a temporary place, and counts at most one more as forced
 one-more : (x k : ℕ) (t g : Bool) → x ≤ k → x - bit t + bit g ≤ k + 1
 one-more x k t true h = omega arith
 one-more x k t false h = omega arith
@@ -64,17 +66,18 @@ fire-low k t m l =
     }
 
 -- the step so far
-pub record Going (n t : ℕ) (cols : Columns) (capacities counts₀ temps₀ counts temps : List ℕ) (s : Marked) (firings : ℕ) : Type 0 where
+pub record Going (n t : ℕ) (cols : Columns) (capacities counts₀ temps₀ counts temps : List ℕ) (s : Marked) (firings forced : ℕ) : Type 0 where
   pub few : firings ≤ 4096
+  pub fewer : forced ≤ firings
   pub stands : Stands n capacities counts temps s
   pub low : AtMost (firings + 1) (marking counts temps)
-  pub so-far : (net : Net) → Describes net n t cols capacities → Loops.Fired net (marking counts₀ temps₀) firings (marking counts temps)
+  pub so-far : (net : Net) → Describes net n t cols capacities → Loops.Fired net (marking counts₀ temps₀) firings forced (marking counts temps)
 
 module _ {n t : ℕ} {cols : Columns} {capacities counts₀ temps₀ : List ℕ} where
-  pub going-start : {s : Marked} → Starts n t capacities counts₀ temps₀ s → Going n t cols capacities counts₀ temps₀ counts₀ temps₀ s 0
-  going-start b = record { few = omega arith; stands = b .stands; low = b .low; so-far = λ net d. start }
+  pub going-start : {s : Marked} → Starts n t capacities counts₀ temps₀ s → Going n t cols capacities counts₀ temps₀ counts₀ temps₀ s 0 0
+  going-start b = record { few = omega arith; fewer = omega arith; stands = b .stands; low = b .low; so-far = λ net d. start }
 
-  module _ {counts temps : List ℕ} {s : Marked} {firings : ℕ} (g : Going n t cols capacities counts₀ temps₀ counts temps s firings) where
+  module _ {counts temps : List ℕ} {s : Marked} {firings forced : ℕ} (g : Going n t cols capacities counts₀ temps₀ counts temps s firings forced) where
     -- a net's own capacities are those of the array
     shows-net : (net : Net) → Describes net n t cols capacities → Shows n (below-capacity net (marking counts temps)) (marking counts temps) s
     unfolding below-capacity
@@ -118,47 +121,51 @@ module _ {n t : ℕ} {cols : Columns} {capacities counts₀ temps₀ : List ℕ}
         }
 
     -- one more firing
-    pub going-on : {i : ℕ} → Chooses n t cols s (At i) → (firings ≡ 4096 → ⊥) → {a : Arcs} → a ≡ row cols i → {counts′ temps′ : List ℕ} {s′ : Marked}
-        → Fired n capacities counts temps a counts′ temps′ s′ → Going n t cols capacities counts₀ temps₀ counts′ temps′ s′ (firings + 1)
+    pub going-on : {i : ℕ} → Chooses n t cols s (At i) → (firings ≡ 4096 → ⊥) → {a : Arcs} → a ≡ row cols i → {counts′ temps′ : List ℕ} {x : After}
+        → Fired n capacities counts temps a counts′ temps′ x → {forced′ : ℕ} → forced′ ≡ forced + bit (x .forced)
+        → Going n t cols capacities counts₀ temps₀ counts′ temps′ (x .marked) (firings + 1) forced′
     unfolding Fires
-    going-on {i} ch h {a} e {counts′} {temps′} f =
+    going-on {i} ch h {a} e {counts′} {temps′} {x} f {forced′} p =
         record {
           few = let k = g .few in omega arith;
+          fewer = omega (arith, one-more forced firings false (x .forced) (g .fewer));
           stands = f .stands;
           low = subst (AtMost (firings + 1 + 1)) (sym (f .marking-is)) (fire-low (firings + 1) (reading n a) (marking counts temps) (g .low));
           so-far = λ net d. further net d (fires-in (At i) ch net d);
         }
       where
         further : (net : Net) → Describes net n t cols capacities → Fires (At i) (size net) (below-capacity net (marking counts temps)) (marking counts temps) (transitions net)
-            → Loops.Fired net (marking counts₀ temps₀) (firings + 1) (marking counts′ temps′)
+            → Loops.Fired net (marking counts₀ temps₀) (firings + 1) forced′ (marking counts′ temps′)
         further net d fi =
             let u = getD (transitions net) i blank in
             let has : Holds a u = subst (λ (x : Arcs). Holds x u) (sym e) (d .table .at i (omega (arith, fi .0, d .table .count))) in
             let low : Bounded n u = subst (λ (k : ℕ). Bounded k u) (d .contexts) (each-getD (bounded net (d .fits)) i blank (fi .0)) in
             let same : fire u (marking counts temps) ≡ marking counts′ temps′ = sym (f .marking-is ∙ reading-fires n (g .stands .few) a u has low (marking counts temps)) in
-            subst (Loops.Fired net (marking counts₀ temps₀) (firings + 1)) same
-            (subst (λ (k : ℕ). Loops.Fired net (marking counts₀ temps₀) k (fire u (marking counts temps))) (sym (add-one firings)) (more (g .so-far net d) u (fi .1)))
+            let told : forced + bit (is-forced u) ≡ forced′ = sym (p ∙ ap (λ (b : Bool). forced + bit b) (f .forced-is ∙ each-getD (forced-told net (d .fits) (omega (arith, d .contexts, g .stands .few))) i blank (fi .0) a has)) in
+            subst (Loops.Fired net (marking counts₀ temps₀) (firings + 1) forced′) same
+            (subst (λ (k : ℕ). Loops.Fired net (marking counts₀ temps₀) k forced′ (fire u (marking counts temps))) (sym (add-one firings))
+            (subst (λ (j : ℕ). Loops.Fired net (marking counts₀ temps₀) (suc firings) j (fire u (marking counts temps))) told (more (g .so-far net d) u (fi .1))))
 
-    outcome : (net : Net) (quiet : Bool) → Loops.Ends net (marking counts₀ temps₀) 4096 quiet firings (marking counts temps)
-        → Outcomes (record { marked = s; firings = firings; quiet = quiet }) (marking counts temps) (fire-until-quiet net step-limit (marking counts₀ temps₀))
-    outcome net quiet e = record { quiet = sym (e .quiet-is); firings = sym (e .firings-are); marking = sym (e .marking-is) }
+    outcome : (net : Net) (quiet : Bool) → Loops.Ends net (marking counts₀ temps₀) 4096 quiet firings forced (marking counts temps)
+        → Outcomes (record { marked = s; firings = firings; forced = forced; quiet = quiet }) (marking counts temps) (fire-until-quiet net step-limit (marking counts₀ temps₀))
+    outcome net quiet e = record { quiet = sym (e .quiet-is); firings = sym (e .firings-are); forced = sym (e .forced-are); marking = sym (e .marking-is) }
 
     -- the ends
-    pub ends-quiet : Chooses n t cols s Nothing → Ends n t cols capacities counts₀ temps₀ counts temps (record { marked = s; firings = firings; quiet = true })
+    pub ends-quiet : Chooses n t cols s Nothing → Ends n t cols capacities counts₀ temps₀ counts temps (record { marked = s; firings = firings; forced = forced; quiet = true })
     unfolding Fires
     ends-quiet ch = record { stands = g .stands; outcome = λ net d. outcome net true (quiet net d (fires-in Nothing ch net d)) }
       where
         quiet : (net : Net) → Describes net n t cols capacities → Fires Nothing (size net) (below-capacity net (marking counts temps)) (marking counts temps) (transitions net)
-            → Loops.Ends net (marking counts₀ temps₀) 4096 true firings (marking counts temps)
+            → Loops.Ends net (marking counts₀ temps₀) 4096 true firings forced (marking counts temps)
         quiet net d fi = loop-quiet net (marking counts₀ temps₀) (g .so-far net d) 4096 (g .few) fi
 
     pub ends-stopped : {i : ℕ} → Chooses n t cols s (At i) → firings ≡ 4096
-        → Ends n t cols capacities counts₀ temps₀ counts temps (record { marked = s; firings = firings; quiet = false })
+        → Ends n t cols capacities counts₀ temps₀ counts temps (record { marked = s; firings = firings; forced = forced; quiet = false })
     unfolding Fires
     ends-stopped {i} ch e = record { stands = g .stands; outcome = λ net d. outcome net false (stopped net d (fires-in (At i) ch net d)) }
       where
         stopped : (net : Net) → Describes net n t cols capacities → Fires (At i) (size net) (below-capacity net (marking counts temps)) (marking counts temps) (transitions net)
-            → Loops.Ends net (marking counts₀ temps₀) 4096 false firings (marking counts temps)
+            → Loops.Ends net (marking counts₀ temps₀) 4096 false firings forced (marking counts temps)
         stopped net d fi =
-            subst (λ (k : ℕ). Loops.Ends net (marking counts₀ temps₀) k false firings (marking counts temps)) e
+            subst (λ (k : ℕ). Loops.Ends net (marking counts₀ temps₀) k false firings forced (marking counts temps)) e
             (loop-stopped net (marking counts₀ temps₀) (g .so-far net d) (getD (transitions net) i blank) (fi .1))

@@ -6,7 +6,7 @@ use mathlib.Core.List.{List}
 use lib.ListN.{length, getD}
 use Rattle.model.specs.Relations.{Net, size, capacity}
 use Rattle.model.specs.Transitions.{transitions}
-use Rattle.model.specs.Firing.{Marking, Outcome, fire-until-quiet, step-limit}
+use Rattle.model.specs.Firing.{Marking, Outcome, forced-count, fire-until-quiet, step-limit}
 use Rattle.model.specs.Machine.{Effect}
 use Rattle.model.specs.Claims.{Fits}
 use Rattle.model.specs.declared.Answer.{Answer}
@@ -32,6 +32,7 @@ pub record Starts (n t : ℕ) (capacities counts temps : List ℕ) (s : Marked) 
 pub record Outcomes (r : Stepped) (m : Marking) (o : Outcome) : Type 0 where
   pub quiet : r .quiet ≡ o .quiet
   pub firings : r .firings ≡ length (o .fired)
+  pub forced : r .forced ≡ forced-count (o .fired)
   pub marking : m ≡ o .marking
 
 -- how a step from these counts and temporary places ends

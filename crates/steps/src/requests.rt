@@ -42,13 +42,14 @@ fn copied(counts: &[u8; 48]) -> [u8; 48]
     *counts
 }
 
-// The answer of a refused request.
-fn refused(number: u8, firings: usize) -> Answer
-    ensures { λ r. ⌜ r ≡ record { verdict = Refused number; firings = firings } ⌝ }
+// The answer of a refused request: its firings are told though they are rolled back.
+fn refused(number: u8, firings: usize, forced: usize) -> Answer
+    ensures { λ r. ⌜ r ≡ record { verdict = Refused number; firings = firings; forced = forced } ⌝ }
 {
     Answer {
         verdict: Verdict::Refused(number),
         firings,
+        forced,
     }
 }
 
@@ -105,7 +106,7 @@ pub fn judge<'a>(
     ensures { λ r. ⌜ ((net : Net) → Describes net n t (columns (now (priority .entry)) (now (takesContext .entry)) (now (takesPr .entry)) (now (takesNot .entry)) (now (givesContext .entry)) (now (givesPr .entry)) (now (givesNot .entry)) (now (inhibContext .entry)) (now (inhibPr .entry))) (now (capacities .entry)) → Judges r (now (counts .exit)) (effect net (counts-of (now (counts .entry))) (record { on = on; context = c }))) ⌝ }
 {
     if let Verdict::Refused(k) = verdict_before(n, counts, on, c) {
-        return refused(k, 0);
+        return refused(k, 0, 0);
     }
     let before = copied(counts);
     let mut temps = token(on, c);
@@ -128,15 +129,17 @@ pub fn judge<'a>(
         marks,
     );
     let firings = end.firings;
+    let forced = end.forced;
     let verdict = verdict_on(end);
     match verdict {
         Verdict::Granted => Answer {
             verdict: Verdict::Granted,
             firings,
+            forced,
         },
         Verdict::Refused(k) => {
             *counts = before;
-            refused(k, firings)
+            refused(k, firings, forced)
         }
     }
 }

@@ -1,6 +1,7 @@
 // The step: transitions fire one by one, to the end or to the limit.
 ghost use mathlib.Core.Path.{_≡_};
-ghost use Prim.Native.Nat.{_<_};
+ghost use Prim.Native.Nat.{_+_, _<_};
+ghost use Rattle.model.specs.Sets.{bit};
 ghost use Rattle.net.specs.Tables.{columns};
 ghost use Rattle.steps.specs.Steps.{Starts, Ends};
 use walk::Found;
@@ -9,22 +10,33 @@ use walk::Marked;
 // So many firings a step makes at most.
 const STEP_LIMIT: usize = 4096;
 
-// How a step ends: the words of its marking, the firings made, and whether it is quiet, with no transition enabled.
+// How a step ends: the words of its marking, the firings made, how many of them were forced, and whether it is quiet, with no
+// transition enabled.
 pub struct Stepped {
     pub marked: Marked,
     pub firings: usize,
+    pub forced: usize,
     pub quiet: bool,
 }
 
 // The end of a step.
-fn ended(marked: Marked, firings: usize, quiet: bool) -> Stepped
-    ensures { λ r. ⌜ r ≡ record { marked = marked; firings = firings; quiet = quiet } ⌝ }
+fn ended(marked: Marked, firings: usize, forced: usize, quiet: bool) -> Stepped
+    ensures { λ r. ⌜ r ≡ record { marked = marked; firings = firings; forced = forced; quiet = quiet } ⌝ }
 {
     Stepped {
         marked,
         firings,
+        forced,
         quiet,
     }
+}
+
+// The forced ones counted so far, with one more where the last firing was forced. The caller is below the step's limit.
+fn counted(forced: usize, last: bool) -> usize
+    requires { ⌜ forced < 4096 ⌝ }
+    ensures { λ r. ⌜ r ≡ forced + bit last ⌝ }
+{
+    if last { forced + 1 } else { forced }
 }
 
 // The step from the marking in counts and temps, which it leaves as the step does. The caller's words show that marking, and a
@@ -51,8 +63,9 @@ pub fn run_from<'a>(
 {
     let mut marks = start;
     let mut firings = 0;
+    let mut forced = 0;
     loop {
-        let found = walk::next(
+        let Found::At(i) = walk::next(
             priority,
             takesContext,
             takesPr,
@@ -65,12 +78,11 @@ pub fn run_from<'a>(
             t,
             n,
             marks,
-        );
-        let Found::At(i) = found else {
-            return ended(marks, firings, true);
+        ) else {
+            return ended(marks, firings, forced, true);
         };
         if firings == STEP_LIMIT {
-            return ended(marks, firings, false);
+            return ended(marks, firings, forced, false);
         }
         let a = net::entry(
             priority,
@@ -84,7 +96,9 @@ pub fn run_from<'a>(
             inhibPr,
             i,
         );
-        marks = firing::fire(a, marks, n, capacities, counts, temps);
+        let after = firing::fire(a, marks, n, capacities, counts, temps);
+        marks = after.marked;
+        forced = counted(forced, after.forced);
         firings += 1;
     }
 }

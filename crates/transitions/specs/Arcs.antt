@@ -1,9 +1,12 @@
 -- How the words of one transition are read: each holds one of its sets.
 -- Assumes nothing.
+use mathlib.Core.Bool.{Bool, _&&_}
 use mathlib.Core.Path.{_≡_}
 use mathlib.Core.List.{List, [], _∷_}
-use Rattle.model.specs.Sets.{number}
-use Rattle.model.specs.Transitions.{Transition}
+use lib.Dec.{eqb}
+use Rattle.model.specs.Sets.{Each, number}
+use Rattle.model.specs.Relations.{Net}
+use Rattle.model.specs.Transitions.{Transition, is-forced, transitions}
 use Rattle.transitions.specs.declared.Arcs.{Arcs}
 
 -- a word for each set of one transition
@@ -17,6 +20,14 @@ pub record Holds (a : Arcs) (t : Transition) : Type 0 where
   pub givesNot : a .givesNot ≡ number 64 (t .givesNot)
   pub inhibContext : a .inhibContext ≡ number 64 (t .inhibContext)
   pub inhibPr : a .inhibPr ≡ number 64 (t .inhibPr)
+
+-- the words take no token of a temporary place
+unfoldable pub unasked : Arcs → Bool
+unasked a = eqb (a .takesPr) 0 && eqb (a .takesNot) 0
+
+-- What that tells of a net's transitions: which are the forced ones. It holds where the net has at most 64 contexts (proofs/Telling).
+abbrev pub Tells : Net → Type 0
+Tells net = Each (λ (t : Transition). (a : Arcs) → Holds a t → unasked a ≡ is-forced t) (transitions net)
 
 -- the words are those of the only transition of a list
 pub record HoldsOne (a : Arcs) (ts : List Transition) : Type 0 where

@@ -7,6 +7,7 @@ pub use counts::count;
 pub use from_links::act_of;
 pub use from_links::deac_of;
 pub use from_links::extra_of;
+pub use roles::is_forced;
 
 // One transition: its priority, and a word for each of its eight sets.
 pub struct Arcs {

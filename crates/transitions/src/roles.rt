@@ -5,8 +5,15 @@ ghost use Prim.Native.Nat.{_<_};
 ghost use Rattle.model.specs.Sets.{Set, number, singleton};
 ghost use Rattle.model.specs.Relations.{Relation, related, excluded, requires};
 ghost use Rattle.model.specs.Transitions.{asks-on, asks-off, act, deac, forced, drop-of};
-ghost use Rattle.transitions.specs.Arcs.{Holds};
+ghost use Rattle.transitions.specs.Arcs.{Holds, unasked};
 use crate::Arcs;
+
+// Whether a transition is a forced one: of all forms it alone takes from no temporary place.
+pub fn is_forced(a: Arcs) -> bool
+    ensures { λ r. ⌜ r ≡ unasked a ⌝ }
+{
+    (a.takesPr == 0) & (a.takesNot == 0)
+}
 
 // act(c), from what c requires, what it asks on and what it excludes.
 pub fn act(c: usize, needed: u64, asked: u64, barred: u64) -> Arcs

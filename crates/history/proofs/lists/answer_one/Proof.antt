@@ -1,13 +1,20 @@
 use Rattle.history.proofs.Calling.{answered}
+use native.Mathlib.Omega.{arith}
 use borrow.Author.Needs.{needs}
 use Rattle.history.proofs.lists.answer_one.Statement.{statement}
 use Rattle.history.proofs.lists.answer_one.Tie as tie
+
+mul-call-at : tie.Need-mul-call-at
+mul-call-at c = search needs
 
 call-at-requires : tie.Need-call-at-requires
 call-at-requires c κs = search needs
 
 serve-requires : tie.Need-serve-requires
 serve-requires c κs = search needs
+
+mul-write-answer : tie.Need-mul-write-answer
+mul-write-answer c = let start = c .before .before .before .before .before .before .before .before in omega (arith, start)
 
 write-answer-requires : tie.Need-write-answer-requires
 write-answer-requires c κs = search needs
@@ -22,4 +29,4 @@ returns c =
 
 pub answer-one-spec : {M : Type 1} → statement M
 answer-one-spec =
-    tie.close (tie.spec call-at-requires serve-requires write-answer-requires same-length returns)
+    tie.close (tie.spec mul-call-at call-at-requires serve-requires mul-write-answer write-answer-requires same-length returns)

@@ -3,7 +3,7 @@ use mathlib.Core.Bool.{Bool, true, false, not}
 use denote.Ref.{now}
 use Rattle.history.specs.Chains.{loaded}
 use Rattle.history.specs.Reports.{no-calls}
-use Rattle.history.proofs.Reporting.{ran-none, ran-some, whole-calls}
+use Rattle.history.proofs.Reporting.{ran-none, ran-some}
 use borrow.Author.Needs.{needs}
 use Rattle.history.proofs.lists.run.Statement.{statement}
 use Rattle.history.proofs.lists.run.Tie as tie
@@ -25,10 +25,7 @@ load-requires : tie.Need-load-requires
 load-requires c κs = search needs
 
 run-on-requires : tie.Need-run-on-requires
-run-on-requires c κs =
-    let asked = c .before .before .before in
-    let bs = now (asked .before .before .before .before .before .args .calls) in
-    whole-calls bs (sym (twice (no-calls bs)) ∙ ap not (sym (asked .before .are-calls .ensures)) ∙ asked .if1 .left)
+run-on-requires c κs = search needs
 
 same-length : tie.Need-same-length
 same-length c = search needs

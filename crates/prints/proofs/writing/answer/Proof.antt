@@ -1,11 +1,11 @@
--- The parts stand one behind the other, and end before place 384 of 512.
+-- The parts stand one behind the other, and end before place 405 of 512.
 use borrow.Author.Needs.{needs}
 use Rattle.prints.proofs.writing.answer.Statement.{statement}
 use Rattle.prints.proofs.writing.answer.Tie as tie
 use lib.ListN.{getD}
 use Prim.Native.Nat.{_≤_}
 use native.Mathlib.Omega.{arith}
-use Rattle.prints.proofs.Storing.{answered, length-byte, length-word}
+use Rattle.prints.proofs.Storing.{answered, number-fits, number-end, length-byte}
 
 put-call-requires : tie.Need-put-call-requires
 put-call-requires c κs = search needs
@@ -25,34 +25,35 @@ refusal-end c =
     omega (arith, c .put-number .ensures .end, c .before .before .before .put-call .ensures .1, length-byte (c .before .number .result) (omega arith))
 
 put-number-requires-2 : tie.Need-put-number-requires-2
-put-number-requires-2 c κs =
-    omega (arith, refusal-end (c .before), length-word (c .before .before .before .before .before .before .args .firings) (omega arith))
+put-number-requires-2 c κs = number-fits (refusal-end (c .before)) (omega arith) (omega arith)
 
 -- where the firings end
 firings-end : (c : tie.After-put-number2) → c .put-number2 .result ≤ 46
-firings-end c =
-    omega (
-      arith,
-      c .put-number2 .ensures .end,
-      refusal-end (c .before .before),
-      length-word (c .before .before .before .before .before .before .before .args .firings) (omega arith),
-    )
+firings-end c = number-end (refusal-end (c .before .before)) (omega arith) (c .put-number2 .ensures)
+
+put-number-requires-3 : tie.Need-put-number-requires-3
+put-number-requires-3 c κs = number-fits (firings-end (c .before)) (omega arith) (omega arith)
+
+-- where the forced ones end
+forced-end : (c : tie.After-put-number3) → c .put-number3 .result ≤ 67
+forced-end c = number-end (firings-end (c .before .before)) (omega arith) (c .put-number3 .ensures)
 
 put-contexts-requires : tie.Need-put-contexts-requires
-put-contexts-requires c κs = omega (arith, firings-end (c .before))
+put-contexts-requires c κs = omega (arith, forced-end (c .before))
 
 put-requires : tie.Need-put-requires
-put-requires c κs = omega (arith, firings-end (c .before .before .before), c .before .put-contexts .ensures .1)
+put-requires c κs = omega (arith, forced-end (c .before .before .before), c .before .put-contexts .ensures .1)
 
 returns : tie.Need-returns
 returns c =
-    let q = c .before .before .before .before in
+    let o = c .before .before .before .before in
+    let q = o .before .before in
     let p = q .before .before in
     let k = p .before .before .before in
     let a = k .before .before .args in
-    answered (a .call) (a .verdict) (p .before .number .result) (a .firings) (a .n) (λ j. getD (a .counts) j 0) (p .before .number .ensures)
-    (omega (arith, c .put .ensures .end, c .before .before .put-contexts .ensures .1, firings-end q)) (k .put-call .ensures .0) (p .put-number .ensures)
-    (q .put-number2 .ensures) (c .before .before .put-contexts .ensures .0) (c .put .ensures)
+    answered (a .call) (a .verdict) (p .before .number .result) (a .firings) (a .forced) (a .n) (λ j. getD (a .counts) j 0) (p .before .number .ensures)
+    (omega (arith, c .put .ensures .end, c .before .before .put-contexts .ensures .1, forced-end o)) (k .put-call .ensures .0) (p .put-number .ensures)
+    (q .put-number2 .ensures) (o .put-number3 .ensures) (c .before .before .put-contexts .ensures .0) (c .put .ensures)
 
 pub answer-spec : {M : Type 1} → statement M
 answer-spec =
@@ -63,6 +64,7 @@ answer-spec =
     cast-put-number
     put-number-requires
     put-number-requires-2
+    put-number-requires-3
     put-contexts-requires
     put-requires
     returns)

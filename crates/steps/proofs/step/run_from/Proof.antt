@@ -13,11 +13,11 @@ use Rattle.steps.proofs.step.run_from.Statement.{statement}
 use Rattle.steps.proofs.step.run_from.Tie as tie
 
 abbrev Inv-loop : tie.InvT-loop
-Inv-loop priority takesContext takesPr takesNot givesContext givesPr givesNot inhibContext inhibPr t n capacities counts₀ temps₀ s₀ firings₀ counts temps s firings =
-    (t ≤ 192) × Going n t (columns priority takesContext takesPr takesNot givesContext givesPr givesNot inhibContext inhibPr) capacities counts₀ temps₀ counts temps s firings
+Inv-loop priority takesContext takesPr takesNot givesContext givesPr givesNot inhibContext inhibPr t n capacities counts₀ temps₀ s₀ firings₀ forced₀ counts temps s firings forced =
+    (t ≤ 192) × Going n t (columns priority takesContext takesPr takesNot givesContext givesPr givesNot inhibContext inhibPr) capacities counts₀ temps₀ counts temps s firings forced
 
 abbrev μ-loop : tie.MeasureT-loop
-μ-loop priority takesContext takesPr takesNot givesContext givesPr givesNot inhibContext inhibPr t n capacities counts₀ temps₀ s₀ firings₀ counts temps s firings =
+μ-loop priority takesContext takesPr takesNot givesContext givesPr givesNot inhibContext inhibPr t n capacities counts₀ temps₀ s₀ firings₀ forced₀ counts temps s firings forced =
     4096 - firings
 
 abbrev cols : tie.Start Inv-loop μ-loop → Columns
@@ -31,18 +31,18 @@ loop-holds c = (c .pre .few, going-start (c .pre))
 next-requires : tie.Need-next-requires Inv-loop μ-loop
 next-requires c κs = (c .loop .inv .1 .stands .few, c .loop .inv .0)
 
-enum-known-found : tie.Need-enum-known-found Inv-loop μ-loop
-enum-known-found c = search needs
+enum-known-i : tie.Need-enum-known-i Inv-loop μ-loop
+enum-known-i c = search needs
 
 -- the transition found
-chosen : (c : tie.After-found Inv-loop μ-loop) →
+chosen : (c : tie.After-i Inv-loop μ-loop) →
     let w = c .before .before in
     let b = w .before .before in
-    Chooses (b .args .n) (b .args .t) (cols b) (w .before .loop .marks) (At (c .found .given .0 .0))
+    Chooses (b .args .n) (b .args .t) (cols b) (w .before .loop .marks) (At (c .i .given .0 .0))
 chosen c =
     let w = c .before .before in
     let b = w .before .before in
-    subst (Chooses (b .args .n) (b .args .t) (cols b) (w .before .loop .marks)) (c .found .given .1) (w .next .ensures)
+    subst (Chooses (b .args .n) (b .args .t) (cols b) (w .before .loop .marks)) (c .i .given .1) (w .next .ensures)
 
 enum-told : tie.Need-enum-told Inv-loop μ-loop
 enum-told c = search needs
@@ -85,21 +85,30 @@ fire-requires c κs =
     let f = e .before .before .before in
     can-fire (f .before .before .before .loop .inv .1) (chosen f) (e .before .if1 .left) (e .entry .ensures)
 
+-- the forced ones are fewer than the limit, as the firings are
+counted-requires : tie.Need-counted-requires Inv-loop μ-loop
+counted-requires c κs =
+    let d = c .before .before .before .before .before in
+    let h = d .if1 .left in
+    let g = d .before .before .before .before .before .loop .inv .1 in
+    omega (arith, g .few, g .fewer)
+
 add-firings : tie.Need-add-firings Inv-loop μ-loop
-add-firings c = omega (arith, c .before .before .before .before .before .before .before .before .before .loop .inv .1 .few)
+add-firings c = omega (arith, c .before .before .before .before .before .before .before .before .before .before .before .loop .inv .1 .few)
 
 loop-less : tie.Need-loop-less Inv-loop μ-loop
 loop-less c =
-    let d = c .before .before .before .before in
+    let d = c .before .before .before .before .before .before in
     let h = d .if1 .left in
     omega (arith, d .before .before .before .before .before .loop .inv .1 .few)
 
 loop-again : tie.Need-loop-again Inv-loop μ-loop
 loop-again c =
-    let e = c .before .before .before in
+    let k = c .before .before in
+    let e = k .before .before .before in
     let f = e .before .before .before in
     let l = f .before .before .before .loop in
-    (l .inv .0, going-on (l .inv .1) (chosen f) (e .before .if1 .left) (e .entry .ensures) (c .fire .ensures))
+    (l .inv .0, going-on (l .inv .1) (chosen f) (e .before .if1 .left) (e .entry .ensures) (k .fire .ensures) (c .counted .ensures))
 
 pub run-from-spec : {M : Type 1} → statement M
 run-from-spec =
@@ -109,7 +118,7 @@ run-from-spec =
     μ-loop
     loop-holds
     next-requires
-    enum-known-found
+    enum-known-i
     enum-told
     ended-requires
     returns
@@ -117,6 +126,7 @@ run-from-spec =
     returns-2
     entry-requires
     fire-requires
+    counted-requires
     add-firings
     loop-less
     loop-again)
