@@ -31,8 +31,9 @@ use Rattle.model.proofs.Replay.{reply-call}
 use Rattle.state.proofs.States.{Limits, sound-limits, sound-same, board-sound, replies}
 use Rattle.state.proofs.Triples.{relations-part}
 use Rattle.steps.specs.Steps.{Describes}
-use Rattle.engine.specs.Serving.{Slots, Running, Runs, state-at, Serves, moved}
-use Rattle.engine.specs.declared.serving.Served.{Served}
+use Rattle.serving.specs.Serving.{Slots, Running, Runs, state-at, Serves}
+use Rattle.serving.specs.declared.serving.Served.{Served}
+use Rattle.engine.specs.Leaving.{moved}
 
 -- the net in these fields, of which the first n capacities are used
 module _ (n : ℕ) (capacities : List ℕ) (r : ℕ) (relations : List ℕ) (o : ℕ) (l : Limits n r relations o) (long : length capacities ≡ 48) (wide : length relations ≡ 288) where

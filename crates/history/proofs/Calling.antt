@@ -10,8 +10,8 @@ use Rattle.records.specs.Bytes.{put}
 use Rattle.model.specs.Relations.{Net}
 use Rattle.slots.specs.declared.Ring.{Ring}
 use Rattle.state.specs.declared.Tally.{Tally}
-use Rattle.engine.specs.Serving.{Serves}
-use Rattle.engine.specs.declared.serving.Served.{Served}
+use Rattle.serving.specs.Serving.{Serves}
+use Rattle.serving.specs.declared.serving.Served.{Served}
 use Rattle.history.specs.Reports.{call-in, answer-bytes}
 use Rattle.history.specs.Running.{Answered}
 

@@ -23,8 +23,8 @@ use Rattle.slots.specs.View.{entries}
 use Rattle.slots.specs.declared.Ring.{Ring}
 use Rattle.state.specs.declared.Tally.{Tally}
 use Rattle.state.proofs.States.{zeros-in}
-use Rattle.engine.specs.Serving.{state-at}
-use Rattle.engine.specs.declared.serving.Served.{Served}
+use Rattle.serving.specs.Serving.{state-at}
+use Rattle.serving.specs.declared.serving.Served.{Served}
 use Rattle.records.specs.Bytes.{put}
 use Rattle.records.proofs.Puts.{put-next, put-none, concat-map-append}
 use Rattle.history.specs.Reports.{call-in, calls-in, unknown-call, no-calls, answer-bytes, answers-of}

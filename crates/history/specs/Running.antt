@@ -13,8 +13,8 @@ use Rattle.state.specs.View.{tally-in}
 use Rattle.slots.specs.declared.Ring.{Ring}
 use Rattle.state.specs.declared.Tally.{Tally}
 use Rattle.steps.specs.Steps.{Describes}
-use Rattle.engine.specs.Serving.{Serves, state-at}
-use Rattle.engine.specs.declared.serving.Served.{Served}
+use Rattle.serving.specs.Serving.{Serves, state-at}
+use Rattle.serving.specs.declared.serving.Served.{Served}
 use Rattle.records.specs.Bytes.{put}
 use Rattle.history.specs.Reports.{answer-bytes, calls-in, answers-of, report}
 use Rattle.history.specs.declared.lists.Ending.{Ending}

@@ -10,12 +10,12 @@ ghost use Rattle.model.specs.Relations.{Net};
 ghost use Rattle.net.specs.Tables.{columns};
 ghost use Rattle.records.specs.Bytes.{put};
 ghost use Rattle.steps.specs.Steps.{Describes};
-ghost use Rattle.engine.specs.Serving.{Runs, Running};
+ghost use Rattle.serving.specs.Serving.{Runs, Running};
 ghost use Rattle.history.specs.Reports.{call-in, no-calls, answer-bytes, tally-bytes, ran};
 ghost use Rattle.history.specs.Running.{Answered, Held, Ended, Reports};
-use engine::Served;
 use model::Answer;
 use model::Call;
+use serving::Served;
 use slots::Ring;
 use state::Engine;
 use state::Tally;
@@ -86,7 +86,7 @@ fn answer_one<'a>(
     requires { ⌜ (3 * k + 2 < length (now calls)) × (5 * k + 4 < length (now out)) ⌝ }
     ensures { λ r. ⌜ ((net : Net) → Running net n t (columns (now (priority .entry)) (now (takesContext .entry)) (now (takesPr .entry)) (now (takesNot .entry)) (now (givesContext .entry)) (now (givesPr .entry)) (now (givesNot .entry)) (now (inhibContext .entry)) (now (inhibPr .entry))) (now (capacities .entry)) (now (requests .entry)) (now (markings .entry)) ring → Answered net (call-in (getD (now (calls .entry)) (3 * k) 0) (getD (now (calls .entry)) (3 * k + 1) 0) (getD (now (calls .entry)) (3 * k + 2) 0)) (now (counts .entry)) (now (requests .entry)) (now (markings .entry)) ring tally (now (counts .exit)) (now (requests .exit)) (now (markings .exit)) r (now (out .entry)) (5 * k) (now (out .exit))) ⌝ }
 {
-    let s = engine::serve(
+    let s = serving::serve(
         priority,
         takesContext,
         takesPr,

@@ -7,7 +7,7 @@ use lib.ListN.{length, take}
 use Rattle.model.specs.Relations.{Net}
 use Rattle.net.specs.Tables.{columns}
 use Rattle.steps.specs.Steps.{Describes}
-use Rattle.engine.specs.Serving.{Slots, Running}
+use Rattle.serving.specs.Serving.{Slots, Running}
 use Rattle.history.specs.Reports.{calls-in}
 use Rattle.history.specs.Running.{Led}
 use Rattle.history.proofs.Leading.{led-none, led-next, led-all}

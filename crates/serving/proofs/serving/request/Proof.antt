@@ -1,8 +1,8 @@
 use native.Mathlib.Omega.{arith}
-use Rattle.engine.proofs.Answering.{granted-answers, refused-answers, granted-inside}
+use Rattle.serving.proofs.Answering.{granted-answers, refused-answers, granted-inside}
 use borrow.Author.Needs.{needs}
-use Rattle.engine.proofs.serving.request.Statement.{statement}
-use Rattle.engine.proofs.serving.request.Tie as tie
+use Rattle.serving.proofs.serving.request.Statement.{statement}
+use Rattle.serving.proofs.serving.request.Tie as tie
 
 copied-requires : tie.Need-copied-requires
 copied-requires c κs = search needs

@@ -7,7 +7,7 @@ ghost use Rattle.model.specs.Relations.{Net};
 ghost use Rattle.model.specs.Machine.{call-of};
 ghost use Rattle.model.specs.declared.Call.the-variants.{Undo, Settle};
 ghost use Rattle.net.specs.Tables.{columns};
-ghost use Rattle.engine.specs.Serving.{Slots, Runs, Running, Answers, Tallied, IsKind, Serves};
+ghost use Rattle.serving.specs.Serving.{Slots, Runs, Running, Answers, Tallied, IsKind, Serves};
 use model::Answer;
 use model::Call;
 use model::NOTHING_OPEN;

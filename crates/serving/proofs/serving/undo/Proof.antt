@@ -1,8 +1,8 @@
 use native.Mathlib.Omega.{arith}
-use Rattle.engine.proofs.Answering.{undo-none-answers, undo-some-answers}
+use Rattle.serving.proofs.Answering.{undo-none-answers, undo-some-answers}
 use borrow.Author.Needs.{needs}
-use Rattle.engine.proofs.serving.undo.Statement.{statement}
-use Rattle.engine.proofs.serving.undo.Tie as tie
+use Rattle.serving.proofs.serving.undo.Statement.{statement}
+use Rattle.serving.proofs.serving.undo.Tie as tie
 
 returns : tie.Need-returns
 returns c = λ net. undo-none-answers net _ _ _ _ (c .before .before .pre .0) (c .if1 .taken)

@@ -25,9 +25,9 @@ use Rattle.state.specs.declared.Tally.{Tally}
 use Rattle.state.proofs.Boards.{undo-in-none, undo-in-some, settle-in, commit-in}
 use Rattle.slots.proofs.Rings.{joined-limit}
 use Rattle.steps.specs.Steps.{Describes, Judges}
-use Rattle.engine.specs.Serving.{Slots, Running, board-at, state-at, Answers, Tallied, Serves}
-use Rattle.engine.specs.declared.serving.Asked.{Asked}
-use Rattle.engine.specs.declared.serving.Served.{Served}
+use Rattle.serving.specs.Serving.{Slots, Running, board-at, state-at, Answers, Tallied, Serves}
+use Rattle.serving.specs.declared.serving.Asked.{Asked}
+use Rattle.serving.specs.declared.serving.Served.{Served}
 
 module _ (net : Net) (call : Call) (counts requests₀ markings : List ℕ) (ring : Ring) where
   -- a call's answer and board, where the machine's reply is known for each settled list

@@ -12,12 +12,11 @@ use Rattle.net.specs.Tables.{Columns}
 use Rattle.state.specs.View.{board-in, tally-in}
 use Rattle.slots.specs.declared.Ring.{Ring}
 use Rattle.state.specs.declared.Tally.{Tally}
-use Rattle.state.specs.declared.Engine.{Engine}
 use Rattle.steps.specs.Steps.{Describes}
-use Rattle.engine.specs.declared.serving.Kind.{Kind}
-use Rattle.engine.specs.declared.serving.Kind.the-variants.{Asks, Undoes, Settles}
-use Rattle.engine.specs.declared.serving.Asked.{Asked}
-use Rattle.engine.specs.declared.serving.Served.{Served}
+use Rattle.serving.specs.declared.serving.Kind.{Kind}
+use Rattle.serving.specs.declared.serving.Kind.the-variants.{Asks, Undoes, Settles}
+use Rattle.serving.specs.declared.serving.Asked.{Asked}
+use Rattle.serving.specs.declared.serving.Served.{Served}
 
 -- the arrays of the open list have their lengths
 pub record Slots (requests markings : List ℕ) : Type 0 where
@@ -77,21 +76,3 @@ pub record Serves (net : Net) (call : Call) (counts requests markings : List ℕ
       ≡ respond (state-at net counts requests markings ring tally settled) call .state
   pub slots : Slots requests′ markings′
   pub few-open : a .ring .opened ≤ 32
-
--- an engine with the arrays, the ring and the totals that a call left
-abbrev pub moved : Engine → Served → (counts requests markings : List ℕ) → Engine
-moved e s counts requests markings =
-    record {
-      n = e .n;
-      r = e .r;
-      capacities = e .capacities;
-      relations = e .relations;
-      counts = counts;
-      requests = requests;
-      markings = markings;
-      first = s .ring .first;
-      opened = s .ring .opened;
-      granted = s .tally .granted;
-      refused = s .tally .refused;
-      undone = s .tally .undone;
-    }

@@ -1,10 +1,10 @@
 use mathlib.Core.Path.{_≡_, refl, subst}
-use Rattle.engine.specs.Serving.{IsKind}
-use Rattle.engine.specs.declared.serving.Kind.{Kind}
-use Rattle.engine.proofs.Answering.{serves}
+use Rattle.serving.specs.Serving.{IsKind}
+use Rattle.serving.specs.declared.serving.Kind.{Kind}
+use Rattle.serving.proofs.Answering.{serves}
 use borrow.Author.Needs.{needs}
-use Rattle.engine.proofs.serving.serve.Statement.{statement}
-use Rattle.engine.proofs.serving.serve.Tie as tie
+use Rattle.serving.proofs.serving.serve.Statement.{statement}
+use Rattle.serving.proofs.serving.serve.Tie as tie
 
 -- the call, by the kind that it was found to be
 call-is : (k : tie.After-kind-of) {x : Kind} → k .kind-of .result ≡ x → IsKind x (k .before .args .call)

@@ -1,9 +1,0 @@
-use Rattle.engine.proofs.Answering.{settled-answers}
-use Rattle.engine.proofs.serving.settle.Statement.{statement}
-use Rattle.engine.proofs.serving.settle.Tie as tie
-
-returns : tie.Need-returns
-returns c = λ net. settled-answers net _ _ _ (c .args .ring) (c .pre)
-
-pub settle-spec : {M : Type 1} → statement M
-settle-spec = tie.close (tie.spec returns)
