@@ -30,13 +30,14 @@ pub record Transition : Type 0 where
   pub inhibContext : Set
   pub inhibPr : Set
 
--- whether a transition is a forced one
+-- the role of a forced transition
 abbrev pub forces-off : Role → Bool
 forces-off activates = false
 forces-off deactivates = false
 forces-off forces = true
 forces-off drops = false
 
+-- whether a transition has it: document 02, request b counts the firings of these
 abbrev pub is-forced : Transition → Bool
 is-forced t = forces-off (t .role)
 

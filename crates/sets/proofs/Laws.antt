@@ -216,12 +216,16 @@ test-within w f g =
     (sym (members-number w (common f g) j l) ∙ ap (λ (m : ℕ). members m j) (number-and w f g ∙ eqb-true _ _ e) ∙ members-number w f j l)))
     (λ e. eq-eqb _ _ (sym (number-and w f g) ∙ number-cong w (common f g) f (λ j l. and-if (f j) (g j) (below-at w _ e j l))))
 
-pub test-apart : (w : ℕ) (f g : Set) → eqb (bitAnd (number w f) (number w g)) 0 ≡ apart w f g
-test-apart w f g =
+-- a word is 0 exactly where its set has no member
+test-none : (w : ℕ) (f : Set) → eqb (number w f) 0 ≡ all-below w (λ j. not (f j))
+test-none w f =
     same-bool _ _
-    (λ e. below-make w _ (λ j l. is-false (f j && g j)
-    (sym (members-number w (common f g) j l) ∙ ap (λ (m : ℕ). members m j) (number-and w f g ∙ eqb-true _ _ e ∙ sym (number-empty w)) ∙ members-number w empty-set j l)))
-    (λ e. eq-eqb _ _ (sym (number-and w f g) ∙ number-cong w (common f g) empty-set (λ j l. not-is (f j && g j) (below-at w _ e j l)) ∙ number-empty w))
+    (λ e. below-make w _ (λ j l. is-false (f j)
+    (sym (members-number w f j l) ∙ ap (λ (m : ℕ). members m j) (eqb-true _ _ e ∙ sym (number-empty w)) ∙ members-number w empty-set j l)))
+    (λ e. eq-eqb _ _ (number-cong w f empty-set (λ j l. not-is (f j) (below-at w _ e j l)) ∙ number-empty w))
+
+pub test-apart : (w : ℕ) (f g : Set) → eqb (bitAnd (number w f) (number w g)) 0 ≡ apart w f g
+test-apart w f g = ap (λ (x : ℕ). eqb x 0) (sym (number-and w f g)) ∙ test-none w (common f g)
 
 -- ---- the operations on words of w digits, by what the words hold
 pub single-word : (w c : ℕ) → c < w → (1 * 2 ^ c) % 2 ^ w ≡ number w (singleton c)
@@ -294,6 +298,9 @@ module _ (w : ℕ) {a : ℕ} (f : Set) (ha : a ≡ number w f) where
 
   pub contained : (c : ℕ) → c < w → members a c ≡ f c
   contained c h = ap (λ (x : ℕ). members x c) ha ∙ members-number w f c h
+
+  pub none-holds : eqb a 0 ≡ all-below w (λ j. not (f j))
+  none-holds = ap (λ (x : ℕ). eqb x 0) ha ∙ test-none w f
 
   pub byte-holds : (i : ℕ) → 8 * i + 8 ≤ w → byte-of i (members a) ≡ byte-of i f
   byte-holds i h =

@@ -6,13 +6,13 @@ use mathlib.Core.Path.{_≡_, refl, sym, ap, ap₂, subst, _∙_}
 use mathlib.Core.List.{List, [], _∷_}
 use native.Mathlib.Decide.{ℕ-discrete, decLt}
 use native.Mathlib.Omega.{arith}
-use borrow.Author.Tests.{lt-ltb, le-ltb, ltb-false, leb-false, eq-eqb, ne-eqb, eqb-true}
+use borrow.Author.Tests.{lt-ltb, le-ltb, leb-false, eq-eqb, ne-eqb}
 use lib.Dec.{eqb, ltb, leb}
 use lib.ListN.{length, getD, set, replicate, length-replicate}
 use lib.Seq.{getD-set-same, getD-set-other}
 use Rattle.sets.specs.Sets.{upto}
-use Rattle.sets.proofs.Laws.{same-bool, contained, zero-holds, number-empty}
-use Rattle.model.specs.Sets.{Set, singleton, empty-set, bit, number, all-below}
+use Rattle.sets.proofs.Laws.{none-holds, below-narrow, below-cong}
+use Rattle.model.specs.Sets.{Set, singleton, bit, number, all-below}
 use Rattle.model.specs.Refusals.{refuse, first-refusal, no-such-context, already-off, step-limit-met, tokens-left}
 use Rattle.model.specs.Relations.{Net, size}
 use Rattle.model.specs.Firing.{Marking, Outcome, holds-token, is-empty, clear, fire-until-quiet, step-limit}
@@ -20,8 +20,6 @@ use Rattle.model.specs.Machine.{Request, Counts, Effect, initial-marking, step-
 use Rattle.model.specs.declared.Answer.{Answer}
 use Rattle.model.specs.declared.Verdict.{Verdict}
 use Rattle.model.specs.declared.Verdict.the-variants.{Granted, Refused}
-use Rattle.model.proofs.Masks.{number-cong}
-use Rattle.model.proofs.Tests.{and-false, below-at, below-make}
 use Rattle.net.specs.Tables.{Columns}
 use Rattle.walk.specs.Markings.{counts-of, marking, below, Shows, AtMost}
 use Rattle.steps.specs.Steps.{Describes, Starts, Outcomes, Ends, Judges}
@@ -110,18 +108,14 @@ module _ {n t : ℕ} {capacities counts temps : List ℕ} {s : Marked} (r : Requ
 
 -- a word of places of one kind is 0 where none of them holds a token
 empty-word : (n : ℕ) → n ≤ 64 → (f : ℕ → ℕ) {w : ℕ} → w ≡ number 64 (upto n (holds-token f)) → eqb w 0 ≡ all-below n (is-empty f)
-empty-word n few f {w} e =
-    same-bool (eqb w 0) (all-below n (is-empty f))
-    (λ q. below-make n (is-empty f) (λ j l. no-token (f j)
-    (and-false (ltb j n) (ltb 0 (f j)) (sym (contained 64 (upto n (holds-token f)) e j (omega arith)) ∙ contained 64 empty-set (eqb-true w 0 q ∙ zero-holds 64) j (omega arith)) (lt-ltb j n l))))
-    (λ q. eq-eqb w 0 (e ∙ number-cong 64 (upto n (holds-token f)) empty-set (λ j l. none j (decLt j n) q) ∙ number-empty 64))
+empty-word n few f e =
+    none-holds 64 (upto n (holds-token f)) e
+    ∙ below-narrow n 64 (λ j. not (upto n (holds-token f) j)) few (λ j l. ap (λ (x : Bool). not (x && ltb 0 (f j))) (le-ltb j n l))
+    ∙ below-cong n (λ j. not (upto n (holds-token f) j)) (is-empty f) (λ j l. ap (λ (x : Bool). not (x && ltb 0 (f j))) (lt-ltb j n l) ∙ no-token (f j))
   where
-    no-token : (x : ℕ) → ltb 0 x ≡ false → eqb x 0 ≡ true
-    no-token x q = let k = ltb-false 0 x q in eq-eqb x 0 (omega arith)
-
-    none : (j : ℕ) → Dec (j < n) → all-below n (is-empty f) ≡ true → (ltb j n && ltb 0 (f j)) ≡ false
-    none j (yes h) q = let k = eqb-true (f j) 0 (below-at n (is-empty f) q j h) in ap (λ (x : Bool). ltb j n && x) (le-ltb 0 (f j) (omega arith)) ∙ and-none (ltb j n)
-    none j (no h) q = ap (λ (x : Bool). x && ltb 0 (f j)) (le-ltb j n (omega arith))
+    no-token : (x : ℕ) → not (ltb 0 x) ≡ eqb x 0
+    no-token zero = refl
+    no-token (suc x) = ap not (lt-ltb 0 (suc x) (omega arith)) ∙ sym (ne-eqb (suc x) 0 (λ q. omega arith))
 
 clear-is : (net : Net) (n : ℕ) → n ≤ 48 → size net ≡ n → (spare : Set) (m : Marking) (s : Marked) → Shows n spare m s → (eqb (s .pr) 0 && eqb (s .prNot) 0) ≡ clear net m
 unfolding clear

@@ -2,6 +2,7 @@
 ghost use mathlib.Core.Path.{_≡_};
 ghost use Prim.Native.Nat.{_+_, _<_};
 ghost use Rattle.model.specs.Sets.{bit};
+ghost use Rattle.model.specs.Firing.{step-limit};
 ghost use Rattle.net.specs.Tables.{columns};
 ghost use Rattle.steps.specs.Steps.{Starts, Ends};
 use walk::Found;
@@ -33,7 +34,7 @@ fn ended(marked: Marked, firings: usize, forced: usize, quiet: bool) -> Stepped
 
 // The forced ones counted so far, with one more where the last firing was forced. The caller is below the step's limit.
 fn counted(forced: usize, last: bool) -> usize
-    requires { ⌜ forced < 4096 ⌝ }
+    requires { ⌜ forced < step-limit ⌝ }
     ensures { λ r. ⌜ r ≡ forced + bit last ⌝ }
 {
     if last { forced + 1 } else { forced }

@@ -2,28 +2,27 @@
 -- Assumes nothing.
 use Prim.Native.Nat.{ℕ, _<_, _≤_}
 use native.Mathlib.Omega.{arith}
-use mathlib.Core.Bool.{Bool, true, false, _&&_}
-use mathlib.Core.Path.{_≡_, refl, sym, ap, ap₂, _∙_}
+use mathlib.Core.Bool.{Bool, true, false, _&&_, not}
+use mathlib.Core.Path.{_≡_, refl, ap, ap₂, _∙_}
 use lib.Dec.{eqb}
-use borrow.Author.Tests.{eq-eqb, ne-eqb}
+use borrow.Author.Tests.{eq-eqb}
 use Rattle.model.specs.Sets.{number, singleton, empty-set}
 use Rattle.model.specs.Relations.{Net, size, causes}
 use Rattle.model.specs.Transitions.{Transition, is-forced, act, deac, forced, drop-of}
 use Rattle.model.specs.Claims.{Fits}
 use Rattle.model.proofs.Ready.{related-ends}
 use Rattle.model.proofs.Shapes.{Shape, is-act, is-deac, is-drop, is-implied, is-required, shapes}
-use Rattle.model.proofs.Tests.{not-both, each-map}
-use Rattle.sets.proofs.Laws.{contained, number-empty, zero-holds}
+use Rattle.model.proofs.Tests.{below-make, each-map}
+use Rattle.sets.proofs.Laws.{none-holds, below-fails}
 use Rattle.transitions.specs.Arcs.{Holds, unasked, Tells}
 use Rattle.transitions.specs.declared.Arcs.{Arcs}
 
 -- a word with a member is not 0, and one without is
 some-word : (c : ℕ) → c < 64 → {w : ℕ} → w ≡ number 64 (singleton c) → eqb w 0 ≡ false
-some-word c h {w} e =
-    ne-eqb w 0 (λ z. not-both (singleton c c) (eq-eqb c c refl) (sym (contained 64 (singleton c) e c h) ∙ contained 64 empty-set (z ∙ zero-holds 64) c h))
+some-word c h e = none-holds 64 (singleton c) e ∙ below-fails 64 (λ j. not (singleton c j)) c h (ap not (eq-eqb c c refl))
 
 no-word : {w : ℕ} → w ≡ number 64 empty-set → eqb w 0 ≡ true
-no-word {w} e = eq-eqb w 0 (e ∙ number-empty 64)
+no-word e = none-holds 64 empty-set e ∙ below-make 64 (λ j. true) (λ j l. refl)
 
 both : {p q r s : Bool} → p ≡ r → q ≡ s → (p && q) ≡ (r && s)
 both e f = ap₂ (λ (a b : Bool). a && b) e f
