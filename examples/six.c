@@ -9,7 +9,7 @@ enum { DUMPED, RESET, POWERED, SOAK, BATTERYOUT, LOGGING, CONTEXTS };
 
 static const char *const names[CONTEXTS] = {"DUMPED", "RESET", "POWERED", "SOAK", "BATTERYOUT", "LOGGING"};
 
-static const char *const kinds[] = {"", "excludes", "causes", "implies", "requires"};
+static const char *const kinds[] = {"", "excludes", "causes", "implies", "requires", "suggests"};
 
 static const char *const verbs[] = {"activate", "deactivate", "undo", "settle"};
 

@@ -18,7 +18,7 @@ static uint8_t capacities[BOARD_MOST_CONTEXTS], relations[BOARD_MOST_RELATIONS *
 static size_t n, r, length;
 
 static size_t most_compose, most_check, most_list, most_run;
-static int seen[BOARD_ALREADY_OFF + 1];
+static int seen[BOARD_NOT_RAISED + 1];
 
 /* Calls f on its own stack with up to three arrays. */
 static uint64_t on_stack(function f, const void *a, size_t a_len, const void *b, size_t b_len, void *c, size_t c_len)
@@ -64,7 +64,7 @@ static void relate(uint8_t kind, size_t a, size_t b)
     r++;
 }
 
-/* 48 contexts, each related to the next ones by causes, implies and requires in turn: 96 relations. */
+/* 48 contexts, each related to the next ones by causes, implies, requires and suggests in turn: 96 relations. */
 static void largest_net(void)
 {
     size_t a, apart;
@@ -73,7 +73,7 @@ static void largest_net(void)
     r = 0;
     for (apart = 1; r < BOARD_MOST_RELATIONS; apart++)
         for (a = 0; a + apart < n && r < BOARD_MOST_RELATIONS; a++)
-            relate((uint8_t)(BOARD_CAUSES + r % 3), a, a + apart);
+            relate((uint8_t)(BOARD_CAUSES + r % 4), a, a + apart);
 }
 
 /* A ring in which each context implies the next: a step that meets its limit. */
@@ -143,7 +143,7 @@ int main(void)
     ok = ok && measure_net();
     ok = ok && measure_refused();
     ok = ok && seen[0] && seen[BOARD_NO_SUCH_CONTEXT] && seen[BOARD_STEP_LIMIT_MET] && seen[BOARD_TOKENS_LEFT] && seen[BOARD_NOTHING_OPEN]
-        && seen[BOARD_ALREADY_OFF];
+        && seen[BOARD_ALREADY_OFF] && seen[BOARD_NOT_RAISED];
     if (!ok) {
         fprintf(stderr, "stack: unexpected answers\n");
         return 1;

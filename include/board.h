@@ -19,6 +19,7 @@
 #define BOARD_CAUSES 2   /* a causes b */
 #define BOARD_IMPLIES 3  /* a implies b */
 #define BOARD_REQUIRES 4 /* a requires b */
+#define BOARD_SUGGESTS 5 /* a suggests b: going on, a asks b on, and goes on even where b cannot; going off, a leaves b as it is */
 
 /* A call is three bytes: which call, then the context in two bytes, low byte first; undo and settle do not read those two. */
 #define BOARD_CALL_SIZE 3
@@ -37,7 +38,7 @@
 #define BOARD_WRONG_SIZES 3       /* n is not 1 to 48, r is above 96, or the relation bytes are not whole triples */
 #define BOARD_WRONG_LAYOUT 4      /* a distance or the length does not follow from the trailer */
 #define BOARD_ZERO_CAPACITY 5     /* a capacity is 0 */
-#define BOARD_WRONG_RELATION 6    /* a relation's kind is not 1 to 4, an end is no context, or both ends are the same */
+#define BOARD_WRONG_RELATION 6    /* a relation's kind is not 1 to 5, an end is no context, or both ends are the same */
 #define BOARD_REPEATED_RELATION 7 /* a relation repeats an earlier one */
 #define BOARD_SHORT_OUTPUT 8      /* the output is too short for the image */
 #define BOARD_WRONG_RECORDS 9     /* the records are not those of the net that the relations compose */
@@ -46,6 +47,7 @@
 #define BOARD_TOKENS_LEFT 12      /* something that was asked for could not be done */
 #define BOARD_NOTHING_OPEN 13     /* nothing is open to be undone */
 #define BOARD_ALREADY_OFF 14      /* the context to be deactivated is not active; tested straight after 10 */
+#define BOARD_NOT_RAISED 15       /* the context to be activated is no higher than before: a suggestion let go what was asked for; after 12 */
 
 /* Lengths in bytes. An image has n + 3r + 49t + 8, where t is 2n plus the relations that are no exclusions; a list has 2 + n + 3r. */
 #define BOARD_SHORTEST_IMAGE 107 /* n = 1, r = 0 */

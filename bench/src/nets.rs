@@ -6,6 +6,7 @@ pub const EXCLUDES: u8 = 1;
 pub const CAUSES: u8 = 2;
 pub const IMPLIES: u8 = 3;
 pub const REQUIRES: u8 = 4;
+pub const SUGGESTS: u8 = 5;
 
 pub const MAX_CONTEXTS: usize = 48;
 pub const MAX_RELATIONS: usize = 96;
@@ -148,7 +149,7 @@ pub fn largest() -> Description {
     let n = MAX_CONTEXTS as u8;
     let mut relations = vec![[EXCLUDES, 0, n - 1]];
     for i in 0..MAX_RELATIONS as u8 - 1 {
-        let kind = CAUSES + i % 3;
+        let kind = CAUSES + i % 4;
         let a = i % n;
         let b = (a + 1 + i / 3) % n;
         relations.push([kind, a, b]);

@@ -1,7 +1,7 @@
 //! Random nets and calls, the same on every run with the same seed.
 
 use crate::nets::{
-    Call, Description, CAUSES, EXCLUDES, IMPLIES, MAX_CONTEXTS, MAX_RELATIONS, REQUIRES,
+    Call, Description, CAUSES, EXCLUDES, IMPLIES, MAX_CONTEXTS, MAX_RELATIONS, REQUIRES, SUGGESTS,
 };
 use std::ops::RangeInclusive;
 
@@ -53,12 +53,15 @@ impl Random {
 }
 
 /// The kinds that one net draws from.
-const KIND_MIXES: [&[u8]; 5] = [
+const KIND_MIXES: [&[u8]; 8] = [
+    &[EXCLUDES, CAUSES, IMPLIES, REQUIRES, SUGGESTS],
     &[EXCLUDES, CAUSES, IMPLIES, REQUIRES],
     &[CAUSES, IMPLIES],
-    &[CAUSES, CAUSES, IMPLIES, REQUIRES],
+    &[CAUSES, CAUSES, IMPLIES, REQUIRES, SUGGESTS],
     &[IMPLIES, REQUIRES],
+    &[IMPLIES, REQUIRES, SUGGESTS],
     &[EXCLUDES, CAUSES, IMPLIES],
+    &[EXCLUDES, CAUSES, IMPLIES, SUGGESTS],
 ];
 
 pub const ALL_KINDS: &[u8] = KIND_MIXES[0];

@@ -110,7 +110,7 @@ fn damage_description(random: &mut Random, description: &mut Description) {
         2 => damage_bytes(random, capacities),
         3 => damage_bytes(random, relations),
         4 => relations.extend_from_within(..relations.len().min(3)),
-        _ => relations.extend((0..random.within(1..=4)).map(|_| random.byte() % 6)),
+        _ => relations.extend((0..random.within(1..=4)).map(|_| random.byte() % 7)),
     }
 }
 
@@ -178,6 +178,6 @@ fn change_byte(random: &mut Random, bytes: &mut [u8]) {
     bytes[at] = match random.below(3) {
         0 => random.byte(),
         1 => bytes[at] ^ (1 << random.below(8)),
-        _ => random.below(5) as u8,
+        _ => random.below(7) as u8,
     };
 }

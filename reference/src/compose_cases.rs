@@ -2,6 +2,7 @@
 
 use crate::examples::{
     ring, single, six_conditions, Description, CAUSES, EXCLUDES, IMAGE_ROOM, IMPLIES, REQUIRES,
+    SUGGESTS,
 };
 use crate::random::{self, Xorshift};
 use crate::streams::ComposeCase;
@@ -82,34 +83,33 @@ fn named_nets(cases: &mut Cases) {
 fn large_nets(cases: &mut Cases) {
     cases.around_length(Description::new(&[200; 48], &all_kinds_on_pairs()));
     cases.around_length(Description::new(&[3; 48], &all_kinds_around(96)));
-    for kind in [CAUSES, IMPLIES, REQUIRES, EXCLUDES] {
+    for kind in [CAUSES, IMPLIES, REQUIRES, EXCLUDES, SUGGESTS] {
         cases.around_length(ring(kind, &[255; 48]));
     }
     // The longest image: every relation adds a transition.
-    let two_rings = [
-        ring(IMPLIES, &[9; 48]).relations,
-        ring(REQUIRES, &[9; 48]).relations,
-    ];
-    cases.bytes(&[9; 48], &two_rings.concat(), AMPLE);
+    for kind in [REQUIRES, SUGGESTS] {
+        let two_rings = [IMPLIES, kind].map(|kind| ring(kind, &[9; 48]).relations);
+        cases.bytes(&[9; 48], &two_rings.concat(), AMPLE);
+    }
     let rising: Vec<u8> = (1..=48).collect();
     cases.net(&rising, &[], AMPLE);
 }
 
-/// All four kinds between contexts c and 47 - c.
+/// All kinds between contexts c and 47 - c.
 fn all_kinds_on_pairs() -> Vec<[u8; 3]> {
-    (0..96).map(|i| [1 + i % 4, i / 4, 47 - i / 4]).collect()
+    (0..96).map(|i| [1 + i % 5, i / 5, 47 - i / 5]).collect()
 }
 
 /// The kinds in turn, each context to its first neighbour, then its second,
 /// and so on; no two are the same.
 fn all_kinds_around(r: usize) -> Vec<[u8; 3]> {
     (0..r as u8)
-        .map(|i| [1 + i % 4, i % 48, (i % 48 + 1 + i / 48) % 48])
+        .map(|i| [1 + i % 5, i % 48, (i % 48 + 1 + i / 48) % 48])
         .collect()
 }
 
 fn repeated_relations(cases: &mut Cases) {
-    for kind in [EXCLUDES, CAUSES, IMPLIES, REQUIRES] {
+    for kind in [EXCLUDES, CAUSES, IMPLIES, REQUIRES, SUGGESTS] {
         let first = [kind, 0, 1];
         let between = [REQUIRES, 2, 3];
         cases.net(&[5; 4], &[first, first], AMPLE);
@@ -119,7 +119,9 @@ fn repeated_relations(cases: &mut Cases) {
         cases.net(&[5; 4], &[[kind, 1, 0], between, first], AMPLE);
     }
     // Same ends, different kinds: none is the same as another.
-    let each_kind = [1, 2, 3, 4].map(|kind| [kind, 1, 0]);
+    let mut each_kind = [1, 2, 3, 4, 5].map(|kind| [kind, 1, 0]);
+    cases.net(&[5, 6], &each_kind, AMPLE);
+    each_kind.reverse();
     cases.net(&[5, 6], &each_kind, AMPLE);
     cases.net(&[5, 6], &[[EXCLUDES, 0, 1], [REQUIRES, 1, 0]], AMPLE);
     // The same one at both ends of a full list.
@@ -166,8 +168,8 @@ fn relation_edges(cases: &mut Cases) {
     let good = [IMPLIES, 0, 1];
     let bad = [
         [0, 0, 1],
-        [5, 0, 1],
         [6, 0, 1],
+        [7, 0, 1],
         [129, 0, 1],
         [255, 0, 1],
         [IMPLIES, 4, 0],
@@ -180,6 +182,9 @@ fn relation_edges(cases: &mut Cases) {
         [IMPLIES, 3, 3],
         [REQUIRES, 2, 2],
         [REQUIRES, 4, 4],
+        [SUGGESTS, 1, 1],
+        [SUGGESTS, 0, 4],
+        [SUGGESTS, 4, 0],
         [0, 0, 0],
     ];
     for relation in bad {
@@ -188,6 +193,7 @@ fn relation_edges(cases: &mut Cases) {
         cases.net(&[7; 4], &[relation, good], AMPLE);
     }
     cases.net(&[7; 4], &[[IMPLIES, 3, 0], [REQUIRES, 0, 3]], AMPLE);
+    cases.net(&[7; 4], &[[SUGGESTS, 3, 0], [SUGGESTS, 0, 3]], AMPLE);
     cases.net(&[7; 48], &[[CAUSES, 47, 0], [CAUSES, 0, 47]], AMPLE);
     cases.net(&[7; 48], &[[CAUSES, 48, 0]], AMPLE);
     cases.net(&[7; 48], &[[CAUSES, 0, 48]], AMPLE);
@@ -196,67 +202,79 @@ fn relation_edges(cases: &mut Cases) {
 }
 
 /// Each two of 3, 5, 6, 7 and 8 at once, then more of them.
-fn several_refusals(cases: &mut Cases) {
-    let good = [IMPLIES, 0, 1];
-    let other = [CAUSES, 1, 2];
-    let bad_kind = [5, 0, 1];
-    let bad_end = [IMPLIES, 0, 49];
-    let bad_same_ends = [REQUIRES, 1, 1];
-    let zero_behind = |n: usize| {
-        let mut capacities = vec![5; n];
-        capacities[n - 1] = 0;
-        capacities
-    };
-    let mut too_many = all_kinds_around(97);
-    let torn = |relations: &[[u8; 3]]| [&relations.concat()[..], &[3]].concat();
+const GOOD: [u8; 3] = [IMPLIES, 0, 1];
+const OTHER: [u8; 3] = [CAUSES, 1, 2];
+const BAD_KIND: [u8; 3] = [6, 0, 1];
+const BAD_END: [u8; 3] = [IMPLIES, 0, 49];
+const BAD_SAME_ENDS: [u8; 3] = [REQUIRES, 1, 1];
 
+fn zero_behind(n: usize) -> Vec<u8> {
+    let mut capacities = vec![5; n];
+    capacities[n - 1] = 0;
+    capacities
+}
+
+/// Whole relations and one byte more.
+fn torn(relations: &[[u8; 3]]) -> Vec<u8> {
+    [&relations.concat()[..], &[3]].concat()
+}
+
+fn several_refusals(cases: &mut Cases) {
+    sizes_and_others(cases);
+    for bad in [BAD_KIND, BAD_END, BAD_SAME_ENDS] {
+        relation_and_others(cases, bad);
+    }
+    // 5 and 7, 5 and 8, 7 and 8, all three.
+    cases.net(&zero_behind(4), &[GOOD, OTHER, GOOD], AMPLE);
+    cases.net(&zero_behind(4), &[GOOD, OTHER], 12);
+    cases.net(&[5; 4], &[GOOD, OTHER, GOOD], 12);
+    cases.net(&[5; 4], &[[EXCLUDES, 0, 1], [EXCLUDES, 1, 0]], 0);
+    cases.net(&zero_behind(4), &[GOOD, OTHER, GOOD], 0);
+}
+
+fn sizes_and_others(cases: &mut Cases) {
+    let mut too_many = all_kinds_around(97);
     // 3 and 5.
-    cases.net(&zero_behind(49), &[good], AMPLE);
+    cases.net(&zero_behind(49), &[GOOD], AMPLE);
     cases.net(&zero_behind(48), &too_many, AMPLE);
-    cases.bytes(&zero_behind(4), &torn(&[good]), AMPLE);
+    cases.bytes(&zero_behind(4), &torn(&[GOOD]), AMPLE);
     // 3 and 6.
-    cases.net(&[5; 49], &[bad_kind], AMPLE);
-    cases.net(&[], &[good], AMPLE);
-    cases.bytes(&[5; 4], &torn(&[bad_kind]), AMPLE);
-    too_many[0] = bad_same_ends;
+    cases.net(&[5; 49], &[BAD_KIND], AMPLE);
+    cases.net(&[], &[GOOD], AMPLE);
+    cases.bytes(&[5; 4], &torn(&[BAD_KIND]), AMPLE);
+    too_many[0] = BAD_SAME_ENDS;
     cases.net(&[5; 48], &too_many, AMPLE);
     // 3 and 7.
-    cases.net(&[5; 49], &[good, good], AMPLE);
-    cases.bytes(&[5; 4], &torn(&[good, good]), AMPLE);
+    cases.net(&[5; 49], &[GOOD, GOOD], AMPLE);
+    cases.bytes(&[5; 4], &torn(&[GOOD, GOOD]), AMPLE);
     too_many[0] = too_many[96];
     cases.net(&[5; 48], &too_many, AMPLE);
     // 3 and 8.
     cases.net(&[5; 49], &[], 0);
     cases.net(&[], &[], 0);
-    cases.bytes(&[5; 4], &torn(&[good]), 7);
+    cases.bytes(&[5; 4], &torn(&[GOOD]), 7);
     cases.net(&[5; 48], &all_kinds_around(97), 100);
+}
 
-    for bad in [bad_kind, bad_end, bad_same_ends] {
-        // 5 and 6.
-        cases.net(&zero_behind(4), &[bad], AMPLE);
-        cases.net(&zero_behind(4), &[good, bad], AMPLE);
-        // 6 and 7: every relation is tested for 6 first.
-        cases.net(&[5; 4], &[good, good, bad], AMPLE);
-        cases.net(&[5; 4], &[bad, good, good], AMPLE);
-        cases.net(&[5; 4], &[good, bad, good], AMPLE);
-        cases.net(&[5; 4], &[bad, bad], AMPLE);
-        // 6 and 8.
-        cases.net(&[5; 4], &[good, bad], 10);
-        cases.net(&[5; 4], &[bad, other], 0);
-        // 5, 6 and 7; 6, 7 and 8; all of these.
-        cases.net(&zero_behind(4), &[good, good, bad], AMPLE);
-        cases.net(&[5; 4], &[good, good, bad], 20);
-        cases.net(&zero_behind(4), &[bad, good, good], 3);
-        // 3 besides.
-        cases.net(&zero_behind(49), &[good, good, bad], 3);
-        cases.bytes(&zero_behind(4), &torn(&[good, good, bad]), 0);
-    }
-    // 5 and 7, 5 and 8, 7 and 8, all three.
-    cases.net(&zero_behind(4), &[good, other, good], AMPLE);
-    cases.net(&zero_behind(4), &[good, other], 12);
-    cases.net(&[5; 4], &[good, other, good], 12);
-    cases.net(&[5; 4], &[[EXCLUDES, 0, 1], [EXCLUDES, 1, 0]], 0);
-    cases.net(&zero_behind(4), &[good, other, good], 0);
+fn relation_and_others(cases: &mut Cases, bad: [u8; 3]) {
+    // 5 and 6.
+    cases.net(&zero_behind(4), &[bad], AMPLE);
+    cases.net(&zero_behind(4), &[GOOD, bad], AMPLE);
+    // 6 and 7: every relation is tested for 6 first.
+    cases.net(&[5; 4], &[GOOD, GOOD, bad], AMPLE);
+    cases.net(&[5; 4], &[bad, GOOD, GOOD], AMPLE);
+    cases.net(&[5; 4], &[GOOD, bad, GOOD], AMPLE);
+    cases.net(&[5; 4], &[bad, bad], AMPLE);
+    // 6 and 8.
+    cases.net(&[5; 4], &[GOOD, bad], 10);
+    cases.net(&[5; 4], &[bad, OTHER], 0);
+    // 5, 6 and 7; 6, 7 and 8; all of these.
+    cases.net(&zero_behind(4), &[GOOD, GOOD, bad], AMPLE);
+    cases.net(&[5; 4], &[GOOD, GOOD, bad], 20);
+    cases.net(&zero_behind(4), &[bad, GOOD, GOOD], 3);
+    // 3 besides.
+    cases.net(&zero_behind(49), &[GOOD, GOOD, bad], 3);
+    cases.bytes(&zero_behind(4), &torn(&[GOOD, GOOD, bad]), 0);
 }
 
 fn random_nets(cases: &mut Cases) {
@@ -293,5 +311,5 @@ fn spoil(rng: &mut Xorshift, description: &mut Description) {
         relations
     };
     let position = rng.below(bytes.len());
-    bytes[position] = rng.pick(&[0, 1, 2, 3, 4, 5, 47, 48, 255]);
+    bytes[position] = rng.pick(&[0, 1, 2, 3, 4, 5, 6, 47, 48, 255]);
 }

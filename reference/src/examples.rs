@@ -9,6 +9,7 @@ pub const EXCLUDES: u8 = 1;
 pub const CAUSES: u8 = 2;
 pub const IMPLIES: u8 = 3;
 pub const REQUIRES: u8 = 4;
+pub const SUGGESTS: u8 = 5;
 
 /// What composing is given: capacities and relation bytes.
 #[derive(Clone, PartialEq, Eq, Debug)]

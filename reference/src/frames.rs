@@ -2,12 +2,13 @@
 
 use crate::examples::{
     chain, doubling, forced_in_vain, held_up, ring, single, six_conditions, Description, CAUSES,
-    EXCLUDES, IMPLIES, REQUIRES,
+    EXCLUDES, IMPLIES, REQUIRES, SUGGESTS,
 };
 use crate::image::{RECORD_LEN, TRAILER_LEN};
 use crate::machine::Call;
 use crate::random::{self, Xorshift};
 use crate::streams::{Damage, Frame};
+use crate::suggestions;
 use std::ops::Range;
 
 /// The fixed frames, then `nets` random nets with `calls` calls each.
@@ -34,6 +35,7 @@ pub fn fixed() -> Vec<Frame> {
     nets_that_are_not_ours(&mut frames);
     arcs_asked_for_twice(&mut frames);
     forced_firings(&mut frames);
+    suggested(&mut frames);
     damaged_images(&mut frames);
     frames
 }
@@ -100,10 +102,14 @@ fn rings(frames: &mut Vec<Frame>) {
         add(frames, &ring(IMPLIES, &vec![255; n]), "+0 -0 u +1 s");
     }
     add(frames, &ring(IMPLIES, &[255; 17]), "+16 +8");
-    for kind in [CAUSES, REQUIRES, EXCLUDES] {
+    // A ring of suggestions swallows what goes round when it is full.
+    for n in [2, 16, 17] {
+        add(frames, &ring(SUGGESTS, &vec![255; n]), "+0 +1 -0 +0 u u");
+    }
+    for kind in [CAUSES, REQUIRES, EXCLUDES, SUGGESTS] {
         add(frames, &ring(kind, &[9; 5]), "+0 +2 -1 +1 -0 -2 u");
     }
-    for kind in [CAUSES, IMPLIES] {
+    for kind in [CAUSES, IMPLIES, SUGGESTS] {
         add(frames, &chain(kind, &[9; 5]), "+0 +0 +2 -4 -4 -4 -0 -0 u u");
     }
     add(
@@ -173,7 +179,10 @@ fn empty_nets(frames: &mut Vec<Frame>) {
         Description::new(&[], &[]),
         Description::new(&[5; 49], &[]),
         Description::new(&[5, 0], &[]),
-        Description::new(&[5, 5], &[[5, 0, 1]]),
+        Description::new(&[5, 5], &[[0, 0, 1]]),
+        Description::new(&[5, 5], &[[6, 0, 1]]),
+        Description::new(&[5, 5], &[[255, 0, 1]]),
+        Description::new(&[5, 5], &[[SUGGESTS, 0, 1], [SUGGESTS, 0, 1]]),
         Description::new(&[5, 5], &[[EXCLUDES, 0, 1], [EXCLUDES, 1, 0]]),
     ];
     for description in refused {
@@ -215,7 +224,7 @@ fn nets_that_are_not_ours(frames: &mut Vec<Frame>) {
 
 /// Two relations between the same ends.
 fn arcs_asked_for_twice(frames: &mut Vec<Frame>) {
-    let kinds = [EXCLUDES, CAUSES, IMPLIES, REQUIRES];
+    let kinds = [EXCLUDES, CAUSES, IMPLIES, REQUIRES, SUGGESTS];
     for first in kinds {
         for second in kinds {
             for ends in [[0, 1], [1, 0]] {
@@ -244,6 +253,12 @@ fn forced_firings(frames: &mut Vec<Frame>) {
     });
 }
 
+fn suggested(frames: &mut Vec<Frame>) {
+    for scenario in suggestions::scenarios() {
+        add(frames, &scenario.description, &scenario.calls());
+    }
+}
+
 fn damaged_images(frames: &mut Vec<Frame>) {
     let calls = "+0 +4 +3 -0 u u s u +2 +2";
     let damage = |position, value| Damage { position, value };
@@ -252,7 +267,11 @@ fn damaged_images(frames: &mut Vec<Frame>) {
         vec![damage(0, 2)],
         vec![damage(2, 1)],
         vec![damage(5, 0)],
+        // The last kind there is leaves the records wrong; others are none.
         vec![damage(6, 5)],
+        vec![damage(6, 0)],
+        vec![damage(6, 6)],
+        vec![damage(6, 255)],
         vec![damage(7, 6)],
         vec![damage(8, 1)],
         vec![damage(13, 4), damage(14, 2)],
@@ -299,7 +318,7 @@ fn break_a_rule(rng: &mut Xorshift, description: &mut Description) {
         capacities,
         relations,
     } = description;
-    match rng.below(4) {
+    match rng.below(5) {
         0 => {
             let context = rng.below(capacities.len());
             capacities[context] = 0;
@@ -311,7 +330,8 @@ fn break_a_rule(rng: &mut Xorshift, description: &mut Description) {
             let first: Vec<u8> = relations[..3].to_vec();
             relations.extend(first);
         }
-        _ => relations.extend([rng.pick(&[0, 1, 5]), 0, capacities.len() as u8]),
+        3 => relations.extend([rng.pick(&[0, 6, 7, 128, 255]), 1, 0]),
+        _ => relations.extend([rng.pick(&[1, 5]), 0, capacities.len() as u8]),
     }
 }
 
@@ -328,7 +348,7 @@ fn random_damages(rng: &mut Xorshift, description: &Description) -> Vec<Damage> 
             let stored = image[position];
             let value = match rng.below(4) {
                 0 => rng.byte(),
-                1 => rng.below(6) as u8,
+                1 => rng.below(7) as u8,
                 2 => stored ^ (1 << rng.below(8)),
                 _ => stored.wrapping_add(rng.pick(&[1, 255])),
             };

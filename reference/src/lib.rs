@@ -13,6 +13,7 @@ pub mod random;
 pub mod refusal;
 pub mod reports;
 pub mod streams;
+pub mod suggestions;
 
 pub use image::{compose, load};
 pub use machine::{Answer, Call, Machine, Totals};

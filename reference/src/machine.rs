@@ -173,6 +173,13 @@ fn run_step(net: &Net, marking: &mut Marking) -> Step {
     step
 }
 
+/// What a request asks of its context.
+#[derive(Clone, Copy, PartialEq, Eq)]
+enum Wish {
+    On,
+    Off,
+}
+
 pub struct Machine {
     net: Net,
     counts: Vec<u8>,
@@ -215,31 +222,54 @@ impl Machine {
 
     pub fn call(&mut self, call: Call) -> Answer {
         match call {
-            Call::Activate(c) => self.request(c, |marking| marking.pr[c] += 1),
-            Call::Deactivate(c) if self.count(c) == Ok(0) => self.refuse(refusal::ALREADY_OFF),
-            Call::Deactivate(c) => self.request(c, |marking| marking.pr_not[c] += 1),
+            Call::Activate(c) => self.request(c, Wish::On),
+            Call::Deactivate(c) => self.request(c, Wish::Off),
             Call::Undo => self.undo(),
             Call::Settle => self.settle(),
         }
     }
 
     /// Runs the step on a copy of the marking, so a rollback drops the copy.
-    fn request(&mut self, context: usize, ask: impl FnOnce(&mut Marking)) -> Answer {
+    fn request(&mut self, context: usize, wish: Wish) -> Answer {
         if context >= self.net.contexts() {
             return self.refuse(refusal::CONTEXT_NUMBER);
         }
-        let mut marking = Marking::at_rest(&self.counts);
-        ask(&mut marking);
-        let step = run_step(&self.net, &mut marking);
-        if !step.quiet {
-            return self.refuse_step(refusal::STEP_LIMIT, &step);
+        if wish == Wish::Off && self.counts[context] == 0 {
+            return self.refuse(refusal::ALREADY_OFF);
         }
-        if !marking.temporary_places_are_empty() {
-            return self.refuse_step(refusal::TEMPORARY_TOKEN, &step);
+        let mut marking = Marking::at_rest(&self.counts);
+        match wish {
+            Wish::On => marking.pr[context] += 1,
+            Wish::Off => marking.pr_not[context] += 1,
+        }
+        let step = run_step(&self.net, &mut marking);
+        if let Some(verdict) = self.refusal_after(&step, &marking, context, wish) {
+            return self.refuse_step(verdict, &step);
         }
         self.commit(marking.counts());
         raise(&mut self.totals.granted);
         Answer::after_step(refusal::GRANTED, &step)
+    }
+
+    /// What keeps a step from being committed, tested in this order.
+    fn refusal_after(
+        &self,
+        step: &Step,
+        marking: &Marking,
+        context: usize,
+        wish: Wish,
+    ) -> Option<u8> {
+        // A suggestion may have swallowed what would have kept it on.
+        let is_raised = marking.counts()[context] > self.counts[context];
+        if !step.quiet {
+            Some(refusal::STEP_LIMIT)
+        } else if !marking.temporary_places_are_empty() {
+            Some(refusal::TEMPORARY_TOKEN)
+        } else if wish == Wish::On && !is_raised {
+            Some(refusal::NOT_RAISED)
+        } else {
+            None
+        }
     }
 
     fn commit(&mut self, counts: Vec<u8>) {

@@ -9,8 +9,8 @@ pub const RELATION_LEN: usize = 3;
 
 /// Activations, deactivations and forced deactivations go first.
 pub const PRIORITY_HIGH: u8 = 2;
-/// A drop only takes what nothing of high priority wants.
-pub const PRIORITY_DROP: u8 = 1;
+/// A drop or a swallowing only takes what nothing of high priority wants.
+pub const PRIORITY_LOW: u8 = 1;
 
 #[derive(Clone, Copy, PartialEq, Eq, Debug)]
 pub enum Kind {
@@ -18,6 +18,7 @@ pub enum Kind {
     Causality,
     Implication,
     Requirement,
+    Suggestion,
 }
 
 impl Kind {
@@ -27,6 +28,7 @@ impl Kind {
             2 => Some(Kind::Causality),
             3 => Some(Kind::Implication),
             4 => Some(Kind::Requirement),
+            5 => Some(Kind::Suggestion),
             _ => None,
         }
     }
@@ -37,11 +39,17 @@ impl Kind {
             Kind::Causality => 2,
             Kind::Implication => 3,
             Kind::Requirement => 4,
+            Kind::Suggestion => 5,
         }
     }
 
-    /// Whether b follows a on and off.
-    fn propagates(self) -> bool {
+    /// Whether b is asked on when a goes on.
+    fn asks_on(self) -> bool {
+        self.asks_off() || self == Kind::Suggestion
+    }
+
+    /// Whether b is asked off when a goes off.
+    fn asks_off(self) -> bool {
         matches!(self, Kind::Causality | Kind::Implication)
     }
 }
@@ -223,7 +231,7 @@ fn activation(c: usize, relations: &[Relation]) -> Transition {
     let mut act = Transition::without_arcs(PRIORITY_HIGH);
     act.takes.pr = only(c);
     act.gives.context = only(c);
-    act.gives.pr = followers(c, relations);
+    act.gives.pr = asked_on_by(c, relations);
     // A required token is only looked at: taken and given back.
     act.takes.context = required_by(c, relations);
     act.gives.context |= required_by(c, relations);
@@ -235,7 +243,7 @@ fn deactivation(c: usize, relations: &[Relation]) -> Transition {
     let mut deac = Transition::without_arcs(PRIORITY_HIGH);
     deac.takes.pr_not = only(c);
     deac.takes.context = only(c);
-    deac.gives.pr_not = followers(c, relations);
+    deac.gives.pr_not = asked_off_by(c, relations);
     deac
 }
 
@@ -248,7 +256,7 @@ fn extra(relation: &Relation, relations: &[Relation]) -> Option<Transition> {
     };
     match kind {
         Kind::Exclusion => None,
-        Kind::Causality => Some(drop_request(b)),
+        Kind::Causality => Some(drop_of(b)),
         // A b that is on its way need not force a off.
         Kind::Implication => {
             let inhibitors = PlaceSet {
@@ -258,31 +266,45 @@ fn extra(relation: &Relation, relations: &[Relation]) -> Option<Transition> {
             Some(forced_deactivation(a, inhibitors, relations))
         }
         Kind::Requirement => Some(forced_deactivation(a, b_place, relations)),
+        Kind::Suggestion => Some(swallowing_of(b)),
     }
 }
 
-/// Pulls `a` down like deac(a), without a request. A follower that inhibits
-/// the transition is off already when it fires.
+/// Pulls `a` down like deac(a), without a request. A context that inhibits
+/// the transition is off already when it fires, and is not asked off.
 fn forced_deactivation(a: usize, inhibited_by: PlaceSet, relations: &[Relation]) -> Transition {
     let mut pull = Transition::without_arcs(PRIORITY_HIGH);
     pull.forced = true;
     pull.takes.context = only(a);
-    pull.gives.pr_not = followers(a, relations) & !inhibited_by.context;
+    pull.gives.pr_not = asked_off_by(a, relations) & !inhibited_by.context;
     pull.inhibited_by = inhibited_by;
     pull
 }
 
-/// Swallows the wish to deactivate a context that is off.
-fn drop_request(b: usize) -> Transition {
-    let mut dropped = Transition::without_arcs(PRIORITY_DROP);
+/// Takes away the wish to deactivate a context that is off.
+fn drop_of(b: usize) -> Transition {
+    let mut dropped = Transition::without_arcs(PRIORITY_LOW);
     dropped.takes.pr_not = only(b);
     dropped.inhibited_by.context = only(b);
     dropped
 }
 
-/// Each d with "c causes d" or "c implies d".
-fn followers(c: usize, relations: &[Relation]) -> ContextSet {
-    ends_from(c, relations, Kind::propagates)
+/// Takes away a wish to activate `b` that nothing could serve, whoever it
+/// came from.
+fn swallowing_of(b: usize) -> Transition {
+    let mut swallowed = Transition::without_arcs(PRIORITY_LOW);
+    swallowed.takes.pr = only(b);
+    swallowed
+}
+
+/// Each d that c causes, implies or suggests.
+fn asked_on_by(c: usize, relations: &[Relation]) -> ContextSet {
+    ends_from(c, relations, Kind::asks_on)
+}
+
+/// Each d that c causes or implies: what was only suggested stays on.
+fn asked_off_by(c: usize, relations: &[Relation]) -> ContextSet {
+    ends_from(c, relations, Kind::asks_off)
 }
 
 /// Each b with "c requires b".

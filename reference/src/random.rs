@@ -1,6 +1,6 @@
 //! Random nets and calls, the same on every run with the same seed.
 
-use crate::examples::{Description, CAUSES, EXCLUDES, IMPLIES, REQUIRES};
+use crate::examples::{Description, CAUSES, EXCLUDES, IMPLIES, REQUIRES, SUGGESTS};
 use crate::machine::Call;
 use crate::net::{MAX_CONTEXTS, MAX_RELATIONS};
 use std::ops::RangeInclusive;
@@ -95,15 +95,19 @@ fn capacities(rng: &mut Xorshift, n: usize) -> Vec<u8> {
 }
 
 /// Kinds in the proportions that one net draws from; the mixed one is the
-/// most frequent, the others let long cascades and deep chains occur.
-const KIND_MIXES: [&[u8]; 7] = [
-    &[EXCLUDES, CAUSES, IMPLIES, REQUIRES],
+/// most frequent, the others let long cascades and deep chains occur, or
+/// suggestions that swallow much.
+const KIND_MIXES: [&[u8]; 10] = [
+    &[EXCLUDES, CAUSES, IMPLIES, REQUIRES, SUGGESTS],
+    &[EXCLUDES, CAUSES, IMPLIES, REQUIRES, SUGGESTS],
     &[EXCLUDES, CAUSES, IMPLIES, REQUIRES],
     &[CAUSES, IMPLIES],
-    &[CAUSES, CAUSES, IMPLIES, REQUIRES],
+    &[CAUSES, CAUSES, IMPLIES, REQUIRES, SUGGESTS],
     &[IMPLIES, IMPLIES, REQUIRES],
     &[EXCLUDES, IMPLIES, REQUIRES],
     &[EXCLUDES, CAUSES, CAUSES, CAUSES, IMPLIES, IMPLIES],
+    &[EXCLUDES, CAUSES, IMPLIES, SUGGESTS, SUGGESTS],
+    &[IMPLIES, REQUIRES, SUGGESTS],
 ];
 
 /// Up to `wanted` relations, no two the same; small nets have fewer.

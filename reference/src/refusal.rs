@@ -17,3 +17,4 @@ pub const STEP_LIMIT: u8 = 11;
 pub const TEMPORARY_TOKEN: u8 = 12;
 pub const NOTHING_TO_UNDO: u8 = 13;
 pub const ALREADY_OFF: u8 = 14;
+pub const NOT_RAISED: u8 = 15;

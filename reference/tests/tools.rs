@@ -106,7 +106,7 @@ fn the_hash_takes_each_answer_in_order() {
 /// What random frames alone would seldom or never bring.
 #[test]
 fn fixed_frames_force_in_steps_with_every_end() {
-    let mut most = [0; 15];
+    let mut most = [0; 16];
     for frame in frames::fixed() {
         let Ok(image) = frame.description.image() else {
             continue;
@@ -120,6 +120,7 @@ fn fixed_frames_force_in_steps_with_every_end() {
         }
     }
     assert_eq!((most[0], most[11], most[12]), (4095, 4095, 4));
+    assert_eq!(most[15], 1);
     // No other answer follows a step.
     assert!([10, 13, 14].into_iter().all(|verdict| most[verdict] == 0));
 }

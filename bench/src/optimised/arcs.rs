@@ -8,13 +8,14 @@ pub const MAX_RELATIONS: usize = 96;
 pub const RELATION_LEN: usize = 3;
 
 const PRIORITY_HIGH: u8 = 2;
-pub const PRIORITY_DROP: u8 = 1;
+pub const PRIORITY_LOW: u8 = 1;
 
 const EXCLUDES: u8 = 1;
 const CAUSES: u8 = 2;
 const IMPLIES: u8 = 3;
 const REQUIRES: u8 = 4;
-const KINDS: usize = 4;
+const SUGGESTS: u8 = 5;
+const KINDS: usize = 5;
 
 /// A set of contexts: context c is bit c.
 pub type Set = u64;
@@ -127,7 +128,7 @@ impl Ends {
         let mut repeated = false;
         for triple in relations.chunks_exact(RELATION_LEN) {
             let (kind, a, b) = (triple[0], triple[1], triple[2]);
-            let is_relation = (EXCLUDES..=REQUIRES).contains(&kind)
+            let is_relation = (EXCLUDES..=SUGGESTS).contains(&kind)
                 && usize::from(a) < n
                 && usize::from(b) < n
                 && a != b;
@@ -160,9 +161,14 @@ impl Ends {
         self.0[usize::from(kind - 1)][usize::from(context)]
     }
 
-    /// The contexts that follow this one on and off.
     #[inline]
-    fn followers(&self, context: u8) -> Set {
+    fn asked_on(&self, context: u8) -> Set {
+        self.asked_off(context) | self.of(SUGGESTS, context)
+    }
+
+    /// What is only suggested stays on.
+    #[inline]
+    fn asked_off(&self, context: u8) -> Set {
         self.of(CAUSES, context) | self.of(IMPLIES, context)
     }
 
@@ -174,7 +180,7 @@ impl Ends {
             takes: required,
             takes_pr: only(c),
             gives: required | only(c),
-            gives_pr: self.followers(c),
+            gives_pr: self.asked_on(c),
             inhibited_by: self.of(EXCLUDES, c),
             ..Transition::default()
         }
@@ -186,7 +192,7 @@ impl Ends {
             priority: PRIORITY_HIGH,
             takes: only(c),
             takes_pr_not: only(c),
-            gives_pr_not: self.followers(c),
+            gives_pr_not: self.asked_off(c),
             ..Transition::default()
         }
     }
@@ -197,13 +203,18 @@ impl Ends {
         match kind {
             EXCLUDES => None,
             CAUSES => Some(Transition {
-                priority: PRIORITY_DROP,
+                priority: PRIORITY_LOW,
                 takes_pr_not: only(b),
                 inhibited_by: only(b),
                 ..Transition::default()
             }),
             IMPLIES => Some(self.forced(a, b, only(b))),
-            _ => Some(self.forced(a, b, 0)),
+            REQUIRES => Some(self.forced(a, b, 0)),
+            _ => Some(Transition {
+                priority: PRIORITY_LOW,
+                takes_pr: only(b),
+                ..Transition::default()
+            }),
         }
     }
 
@@ -212,7 +223,7 @@ impl Ends {
         Transition {
             priority: PRIORITY_HIGH,
             takes: only(a),
-            gives_pr_not: self.followers(a) & !only(b),
+            gives_pr_not: self.asked_off(a) & !only(b),
             inhibited_by: only(b),
             inhibited_by_pr,
             ..Transition::default()

@@ -8,6 +8,7 @@ pub const REFUSED_LIMIT: u8 = 11;
 pub const REFUSED_TOKEN: u8 = 12;
 pub const REFUSED_UNDO: u8 = 13;
 pub const REFUSED_OFF: u8 = 14;
+pub const REFUSED_NOT_RAISED: u8 = 15;
 const GRANTED: u8 = 0;
 
 const STEP_LIMIT: u16 = 4096;
@@ -201,7 +202,7 @@ impl<'net, const SPARSE: bool> Machine<'net, SPARSE> {
             return self.refuse(REFUSED_CONTEXT, 0);
         }
         self.marking.pr.add(1 << context);
-        self.request()
+        self.request(context, true)
     }
 
     pub fn deactivate(&mut self, context: usize) -> Answer {
@@ -212,7 +213,7 @@ impl<'net, const SPARSE: bool> Machine<'net, SPARSE> {
             return self.refuse(REFUSED_OFF, 0);
         }
         self.marking.pr_not.add(1 << context);
-        self.request()
+        self.request(context, false)
     }
 
     pub fn undo(&mut self) -> Answer {
@@ -232,11 +233,15 @@ impl<'net, const SPARSE: bool> Machine<'net, SPARSE> {
         (GRANTED, 0)
     }
 
-    fn request(&mut self) -> Answer {
+    /// Runs the step, and commits it where all was done that was asked for.
+    fn request(&mut self, context: usize, on: bool) -> Answer {
         let before = self.marking.board;
         let (fired, quiet) = self.step();
         let marks = self.marking.marks();
-        if quiet && marks.pr | marks.pr_not == 0 {
+        let clear = marks.pr | marks.pr_not == 0;
+        // A suggestion may have swallowed what the context needs to stay on.
+        let low = on && self.marking.board.counts[context] <= before.counts[context];
+        if quiet && clear && !low {
             self.open.push(&before);
             self.granted = self.granted.saturating_add(1);
             return (GRANTED, fired);
@@ -244,7 +249,12 @@ impl<'net, const SPARSE: bool> Machine<'net, SPARSE> {
         self.marking.board = before;
         self.marking.pr.clear();
         self.marking.pr_not.clear();
-        self.refuse(if quiet { REFUSED_TOKEN } else { REFUSED_LIMIT }, fired)
+        let refusal = match (quiet, clear) {
+            (false, _) => REFUSED_LIMIT,
+            (true, false) => REFUSED_TOKEN,
+            (true, true) => REFUSED_NOT_RAISED,
+        };
+        self.refuse(refusal, fired)
     }
 
     fn refuse(&mut self, refusal: u8, fired: Fired) -> Answer {

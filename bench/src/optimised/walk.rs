@@ -1,7 +1,7 @@
 //! The transitions as the step needs them, and the walk that finds the one to
 //! fire.
 
-use super::arcs::{Net, Set, Transition, PRIORITY_DROP};
+use super::arcs::{Net, Set, Transition, PRIORITY_LOW};
 
 /// Which places hold tokens, and which contexts are at their capacity.
 #[derive(Clone, Copy)]
@@ -87,6 +87,14 @@ impl Arcs {
     }
 
     #[inline]
+    fn is_ready_low(&self, marks: Marks) -> bool {
+        self.pr_not_is_there(marks)
+            && self.pr_is_there(marks)
+            && self.contexts_allow(marks)
+            && self.has_room(marks)
+    }
+
+    #[inline]
     fn pr_is_there(&self, marks: Marks) -> bool {
         self.takes_pr & !marks.pr == 0
     }
@@ -122,13 +130,16 @@ const FORCED_FIRING: Fired = FIRING | 1 << 16;
 pub type Found<'table> = Option<(&'table Arcs, Fired)>;
 
 /// The transitions in the order in which they come to fire: those of high
-/// priority by number, then the drops by number. The first that is ready is
-/// the enabled one of the lowest number.
+/// priority by number, then those of low priority by number. The first that is
+/// ready is the enabled one of the lowest number.
 pub struct Table {
     /// act(c) and deac(c).
     pairs: Vec<[Arcs; 2]>,
     forced: Vec<Arcs>,
-    drops: Vec<Arcs>,
+    /// Drops, and what suggestions add.
+    low: Vec<Arcs>,
+    /// Each c whose Pr(c) one of the low ones takes.
+    swallowed: Set,
 }
 
 impl Table {
@@ -136,7 +147,8 @@ impl Table {
         let mut table = Table {
             pairs: Vec::with_capacity(net.contexts()),
             forced: Vec::with_capacity(net.relation_count()),
-            drops: Vec::with_capacity(net.relation_count()),
+            low: Vec::with_capacity(net.relation_count()),
+            swallowed: 0,
         };
         table.pairs.extend(
             net.pairs()
@@ -144,10 +156,11 @@ impl Table {
         );
         for extra in net.extras() {
             let group = match extra.priority {
-                PRIORITY_DROP => &mut table.drops,
+                PRIORITY_LOW => &mut table.low,
                 _ => &mut table.forced,
             };
             group.push(Arcs::of(&extra));
+            table.swallowed |= extra.takes_pr;
         }
         table
     }
@@ -163,7 +176,7 @@ impl Table {
                 return Some((deac, FIRING));
             }
         }
-        self.next_forced(marks).or_else(|| self.next_drop(marks))
+        self.next_forced(marks).or_else(|| self.next_low(marks))
     }
 
     /// Leaves out the pairs that cannot be ready: act(c) needs its Pr(c) and
@@ -181,11 +194,11 @@ impl Table {
             }
         }
         let forced = self.next_forced(marks);
-        // Every drop takes a Pr(¬c).
-        if forced.is_some() || marks.pr_not == 0 {
+        // Every drop takes a Pr(¬c), and a suggestion adds what takes a Pr(c).
+        if forced.is_some() || marks.pr_not | marks.pr & self.swallowed == 0 {
             return forced;
         }
-        self.next_drop(marks)
+        self.next_low(marks)
     }
 
     #[inline]
@@ -195,9 +208,8 @@ impl Table {
     }
 
     #[inline]
-    fn next_drop(&self, marks: Marks) -> Found<'_> {
-        let mut drops = self.drops.iter();
-        let ready = drops.find(|arcs| arcs.is_ready_deactivation(marks));
+    fn next_low(&self, marks: Marks) -> Found<'_> {
+        let ready = self.low.iter().find(|arcs| arcs.is_ready_low(marks));
         ready.map(|arcs| (arcs, FIRING))
     }
 }

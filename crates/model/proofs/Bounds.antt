@@ -11,14 +11,14 @@ use mathlib.Core.List.{List}
 use lib.ListN.{length, getD}
 use borrow.Author.Tests.{eqb-true}
 use Rattle.model.specs.Sets.{Set, singleton, empty-set, bit, Each}
-use Rattle.model.specs.Relations.{Net, size, related, causes, implies, requires}
-use Rattle.model.specs.Transitions.{Transition, asks-on, asks-off, act, deac, forced, drop-of, transitions}
+use Rattle.model.specs.Relations.{Net, size, related, causes, implies, requires, suggests}
+use Rattle.model.specs.Transitions.{Transition, asks-on, asks-off, act, deac, forced, drop-of, decline-of, transitions}
 use Rattle.model.specs.Firing.{Marking, fire, step-limit}
 use Rattle.model.specs.Machine.{Request, Counts, Event, initial-marking, step-of}
 use Rattle.model.specs.Image.{set-bytes}
 use Rattle.model.specs.Claims.{Fits}
 use Rattle.model.proofs.Tests.{or-cases, and-left, not-true, each-map}
-use Rattle.model.proofs.Shapes.{Shape, is-act, is-deac, is-drop, is-implied, is-required, shapes}
+use Rattle.model.proofs.Shapes.{Shape, is-act, is-deac, is-drop, is-implied, is-required, is-decline, shapes}
 use Rattle.model.proofs.Ready.{related-ends, excluded-ends, next-ready}
 use Rattle.model.proofs.Runs.{run-keeps}
 use Rattle.model.proofs.Effects.{granted-step}
@@ -50,6 +50,11 @@ module _ (net : Net) (fits : Fits net) where
       ⊎-elim (λ h. related-ends net fits causes a x h .right) (λ h. related-ends net fits implies a x h .right)
       (or-cases (related (net .rels) causes a x) (related (net .rels) implies a x) e)
 
+  asked-on-below : (a : ℕ) → Below (size net) (λ b. related (net .rels) causes a b || related (net .rels) implies a b || related (net .rels) suggests a b)
+  asked-on-below a x e =
+      ⊎-elim (λ h. asked-below a x h) (λ h. related-ends net fits suggests a x h .right)
+      (or-cases (related (net .rels) causes a x || related (net .rels) implies a x) (related (net .rels) suggests a x) e)
+
   act-bounded : (c : ℕ) → c < size net → Bounded (size net) (act (net .rels) c)
   unfolding act asks-on
   act-bounded c h =
@@ -60,7 +65,7 @@ module _ (net : Net) (fits : Fits net) where
         givesContext = λ x e.
             ⊎-elim (λ p. singleton-below (size net) c h x p) (λ p. related-ends net fits requires c x p .right)
             (or-cases (singleton c x) (related (net .rels) requires c x) e);
-        givesPr = asked-below c;
+        givesPr = asked-on-below c;
         givesNot = empty-below (size net);
         inhibContext = λ x e. excluded-ends net fits c x e .right;
         inhibPr = empty-below (size net);
@@ -108,6 +113,20 @@ module _ (net : Net) (fits : Fits net) where
         inhibPr = empty-below (size net);
       }
 
+  decline-bounded : (b : ℕ) → b < size net → Bounded (size net) (decline-of b)
+  unfolding decline-of
+  decline-bounded b h =
+      record {
+        takesContext = empty-below (size net);
+        takesPr = singleton-below (size net) b h;
+        takesNot = empty-below (size net);
+        givesContext = empty-below (size net);
+        givesPr = empty-below (size net);
+        givesNot = empty-below (size net);
+        inhibContext = empty-below (size net);
+        inhibPr = empty-below (size net);
+      }
+
   shape-bounded : {t : Transition} → Shape net t → Bounded (size net) t
   shape-bounded (is-act c h) = act-bounded c h
   shape-bounded (is-deac c h) = deac-bounded c h
@@ -118,6 +137,7 @@ module _ (net : Net) (fits : Fits net) where
   shape-bounded (is-required a b r) =
       let n = related-ends net fits requires a b r in
       forced-bounded a b empty-set (n .left) (n .right) (empty-below (size net))
+  shape-bounded (is-decline a b r) = decline-bounded b (related-ends net fits suggests a b r .right)
 
   pub bounded : Each (Bounded (size net)) (transitions net)
   bounded = each-map (λ t s. shape-bounded s) (shapes net)

@@ -5,7 +5,7 @@ use Prim.Native.Nat.{ℕ, _<_}
 use native.Mathlib.Omega.{arith}
 use mathlib.Core.Path.{_≡_, refl, sym, subst, ap}
 use mathlib.Core.Logic.{_↔_, inl, inr, ⊎-elim}
-use mathlib.Core.Bool.{Bool, true, cond}
+use mathlib.Core.Bool.{Bool, true, false, cond}
 use mathlib.Core.List.{List, [], _∷_, _++_, List·Memᴰ, List·Memᴰ·head, List·Memᴰ·tail, List·Memᴰ·not-nil, List·Memᴰ·cases-cons}
 use borrow.Author.Tests.{lt-leb, le-leb}
 use Rattle.model.specs.Sets.{Each, nil, cons}
@@ -21,7 +21,7 @@ use Rattle.model.specs.declared.Call.the-variants.{Activate, Deactivate,
 use Rattle.model.specs.declared.Verdict.{Verdict}
 use Rattle.model.specs.declared.Verdict.the-variants.{Granted, Refused}
 use Rattle.model.proofs.Checks.{one-of, refused-first, in-order}
-use Rattle.model.proofs.Effects.{Judged, outside, idle, unfinished, unclear, completed, judged}
+use Rattle.model.proofs.Effects.{Judged, outside, idle, unfinished, unclear, unraised, completed, judged}
 use Rattle.model.proofs.Tests.{not-both}
 
 -- the order of loading
@@ -34,7 +34,7 @@ compose-order f caps bs room = refl
 
 -- the order of a request's checks, before its step and after it
 pub request-order : (net : Net) (m : Counts) (r : Request) (o : Outcome)
-    → (numbers (checks-before net m r) ≡ 10 ∷ 14 ∷ []) × (numbers (checks-after net m r o) ≡ 11 ∷ 12 ∷ [])
+    → (numbers (checks-before net m r) ≡ 10 ∷ 14 ∷ []) × (numbers (checks-after net m r o) ≡ 11 ∷ 12 ∷ 15 ∷ [])
 request-order net m r o = (refl, refl)
 
 -- the one check of a reading
@@ -72,26 +72,28 @@ compose-first f caps bs out k e = refused-first (compose-checks f caps bs (lengt
 abbrev verdict-of : Effect → Verdict
 verdict-of x = x .answer .verdict
 
--- the refusals of a request, and of an activation, which never meets 14
-request-answers : (net : Net) (m : Counts) (r : Request) → OneOf (10 ∷ 14 ∷ 11 ∷ 12 ∷ []) (effect net m r .answer .verdict)
-request-answers net m r = go (judged net m r)
+-- the refusals of a deactivation, which never meets 15, and of an activation, which never meets 14
+deactivation-answers : (net : Net) (m : Counts) (c : ℕ) → OneOf (10 ∷ 14 ∷ 11 ∷ 12 ∷ []) (effect net m (deactivation c) .answer .verdict)
+deactivation-answers net m c = go (judged net m (deactivation c))
   where
-    go : Judged net m r → OneOf (10 ∷ 14 ∷ 11 ∷ 12 ∷ []) (effect net m r .answer .verdict)
+    go : Judged net m (deactivation c) → OneOf (10 ∷ 14 ∷ 11 ∷ 12 ∷ []) (effect net m (deactivation c) .answer .verdict)
     go (outside h e) = inr (10, List·Memᴰ·head refl, ap verdict-of e)
     go (idle h e) = inr (14, List·Memᴰ·tail (List·Memᴰ·head refl), ap verdict-of e)
     go (unfinished h u e) = inr (11, List·Memᴰ·tail (List·Memᴰ·tail (List·Memᴰ·head refl)), ap verdict-of e)
     go (unclear h q k e) = inr (12, List·Memᴰ·tail (List·Memᴰ·tail (List·Memᴰ·tail (List·Memᴰ·head refl))), ap verdict-of e)
-    go (completed h c e) = inl (ap verdict-of e)
+    go (unraised h c l e) = absurd (not-both false (l .activates) refl)
+    go (completed h c u e) = inl (ap verdict-of e)
 
-activation-answers : (net : Net) (m : Counts) (c : ℕ) → OneOf (10 ∷ 11 ∷ 12 ∷ []) (effect net m (activation c) .answer .verdict)
+activation-answers : (net : Net) (m : Counts) (c : ℕ) → OneOf (10 ∷ 11 ∷ 12 ∷ 15 ∷ []) (effect net m (activation c) .answer .verdict)
 activation-answers net m c = go (judged net m (activation c))
   where
-    go : Judged net m (activation c) → OneOf (10 ∷ 11 ∷ 12 ∷ []) (effect net m (activation c) .answer .verdict)
+    go : Judged net m (activation c) → OneOf (10 ∷ 11 ∷ 12 ∷ 15 ∷ []) (effect net m (activation c) .answer .verdict)
     go (outside h e) = inr (10, List·Memᴰ·head refl, ap verdict-of e)
     go (idle h e) = absurd (not-both true refl (h .deactivates))
     go (unfinished h u e) = inr (11, List·Memᴰ·tail (List·Memᴰ·head refl), ap verdict-of e)
     go (unclear h q k e) = inr (12, List·Memᴰ·tail (List·Memᴰ·tail (List·Memᴰ·head refl)), ap verdict-of e)
-    go (completed h c e) = inl (ap verdict-of e)
+    go (unraised h d l e) = inr (15, List·Memᴰ·tail (List·Memᴰ·tail (List·Memᴰ·tail (List·Memᴰ·head refl))), ap verdict-of e)
+    go (completed h d u e) = inl (ap verdict-of e)
 
 undo-answers : (b : Board) (es : List Entry) → OneOf (13 ∷ []) (undo-from b es .answer .verdict)
 unfolding undo-from
@@ -153,6 +155,6 @@ number-granted ks above v o =
 pub call-answers : (s : State) (c : Call) → OneOf (call-refusals c) (respond s c .answer .verdict)
 unfolding respond reply make-request settle
 call-answers s (Activate c) = activation-answers (s .board .net) (s .board .counts) c
-call-answers s (Deactivate c) = request-answers (s .board .net) (s .board .counts) (deactivation c)
+call-answers s (Deactivate c) = deactivation-answers (s .board .net) (s .board .counts) c
 call-answers s Undo = undo-answers (s .board) (s .board .opened)
 call-answers s Settle = inl refl

@@ -20,7 +20,7 @@ use Rattle.model.proofs.Effects.{explained, forced-bound}
 use Rattle.model.proofs.Replay.{reply-net}
 
 -- a request's counts on a board are those that it comes to
-request-counts : (b : Board) (r : Request) → make-request b r .board .counts ≡ effect (b .net) (b .counts) r .counts
+pub request-counts : (b : Board) (r : Request) → make-request b r .board .counts ≡ effect (b .net) (b .counts) r .counts
 unfolding make-request commit
 request-counts b r = go (effect (b .net) (b .counts) r .answer .verdict) refl
   where

@@ -12,8 +12,8 @@ use borrow.Author.Tests.{eqb-true, eq-eqb}
 use lib.ListN.{length, take, drop, getElem?, length-append, length-map}
 use lib.Seq.{take-at, drop-append-add}
 use Rattle.model.specs.Sets.{Set, from, number, singleton, empty-set, equal-lists, concat-map, range, Each, nil, cons, IsByte}
-use Rattle.model.specs.Relations.{Net, Relation, size, relation-count, misfit, causes, implies, requires}
-use Rattle.model.specs.Transitions.{Transition, drop-of, forced, context-transitions, extra, extra-transitions, transitions-of, transitions}
+use Rattle.model.specs.Relations.{Net, Relation, size, relation-count, misfit, causes, implies, requires, suggests}
+use Rattle.model.specs.Transitions.{Transition, drop-of, decline-of, forced, context-transitions, extra, extra-transitions, transitions-of, transitions}
 use Rattle.model.specs.Image.{Format, Trailer, set-bytes, record-bytes, relation-fields, relation-bytes, trailer-fields, trailer-bytes, trailer-size, relation-size, relations-size, record-size, records-size, records, image, transition-count}
 use Rattle.model.specs.Claims.{Valid}
 use Rattle.model.proofs.Tests.{and-left, and-right, and-both, any-false, each-append, each-concat-map}
@@ -70,16 +70,18 @@ length-record w t = simp (length-append, length-set-bytes) (omega arith)
 length-extra : (rels : List Relation) (r : Relation) → length (extra rels r) ≤ 1
 unfolding extra
 length-extra rels r =
-    go (drop-of (r .b)) (forced rels (r .a) (singleton (r .b)) (singleton (r .b))) (forced rels (r .a) (singleton (r .b)) empty-set)
-    (eqb (r .kind) causes) (eqb (r .kind) implies) (eqb (r .kind) requires)
+    go (drop-of (r .b)) (forced rels (r .a) (singleton (r .b)) (singleton (r .b))) (forced rels (r .a) (singleton (r .b)) empty-set) (decline-of (r .b))
+    (eqb (r .kind) causes) (eqb (r .kind) implies) (eqb (r .kind) requires) (eqb (r .kind) suggests)
   where
-    go : (x y z : Transition) (p q s : Bool) → length (cond p (x ∷ []) (cond q (y ∷ []) (cond s (z ∷ []) []))) ≤ 1
-    go x y z true q s = omega arith
-    go x y z false true s = omega arith
-    go x y z false false true = omega arith
-    go x y z false false false = omega arith
+    go : (w x y z : Transition) (p q s u : Bool) → length (cond p (w ∷ []) (cond q (x ∷ []) (cond s (y ∷ []) (cond u (z ∷ []) [])))) ≤ 1
+    go w x y z true q s u = omega arith
+    go w x y z false true s u = omega arith
+    go w x y z false false true u = omega arith
+    go w x y z false false false true = omega arith
+    go w x y z false false false false = omega arith
 
-length-extras : (rels rs : List Relation) → length (concat-map (extra rels) rs) ≤ length rs
+-- no more than one for each relation
+pub length-extras : (rels rs : List Relation) → length (concat-map (extra rels) rs) ≤ length rs
 length-extras rels [] = omega arith
 length-extras rels (r ∷ rs) =
     let p = length-extra rels r in

@@ -8,9 +8,9 @@ use mathlib.Core.List.{List, [], _∷_, _++_, map}
 use lib.Dec.{eqb, T}
 use lib.ListN.{length, drop, set, replicate}
 use Rattle.model.specs.Sets.{bit, number, all-below, any, all, concat-map, range, equal-lists}
-use Rattle.model.specs.Relations.{Net, size, excludes, causes, implies, requires, same, has-zero, misfit, repeats-after, matches, related, excluded}
-use Rattle.model.specs.Transitions.{Role, activates, deactivates, forces, drops, Transition, asks-on, asks-off, act, deac, forced, drop-of, extra, context-transitions, extra-transitions, transitions-of, transitions}
-use Rattle.model.specs.Machine.{Request, Event, fresh, after, log, standing, extend-by, history, step-of, deactivation, initial-marking, concluded, effect, commit, make-request, undo-from, settle, reply, tally-after, respond, reading, board-at}
+use Rattle.model.specs.Relations.{Net, size, excludes, causes, implies, requires, suggests, same, has-zero, misfit, repeats-after, matches, related, excluded}
+use Rattle.model.specs.Transitions.{Role, activates, deactivates, forces, drops, declines, Transition, asks-on, asks-off, act, deac, forced, drop-of, decline-of, extra, context-transitions, extra-transitions, transitions-of, transitions}
+use Rattle.model.specs.Machine.{Request, Event, fresh, after, log, standing, extend-by, history, step-of, activation, deactivation, initial-marking, concluded, effect, commit, make-request, undo-from, settle, reply, tally-after, respond, reading, board-at}
 use Rattle.model.specs.Image.{edition-1, image, records, trailer, trailer-bytes, trailer-of, compose, load, transition-count, set-bytes, record-bytes, relation-bytes, bad-sizes, bad-layout, net-of, records-of, other-records}
 use Rattle.model.specs.Firing.{below-capacity, ready-at, ready, enabled, next, fire, stopped, after-firing, fire-until-quiet, clear}
 use Rattle.model.specs.SixConditions.{relation, six-conditions}
@@ -76,6 +76,22 @@ pair-with t recs = 3 ∷ 3 ∷ causes ∷ 0 ∷ 1 ∷ recs ++ trailer-bytes edit
 -- where 2 goes, 0 and then 1 are forced off, and 1 asks 0 off, which is off already
 abbrev forced-in-vain : Net
 forced-in-vain = record { caps = 1 ∷ 1 ∷ 1 ∷ []; rels = relation requires 0 2 ∷ relation implies 1 2 ∷ relation implies 1 0 ∷ [] }
+
+-- 0 implies 1, which 2 excludes and suggests: where 2 is on, what 0 asks for is declined
+abbrev declined-need : Net
+declined-need = record { caps = 1 ∷ 1 ∷ 1 ∷ []; rels = relation implies 0 1 ∷ relation excludes 1 2 ∷ relation suggests 2 1 ∷ [] }
+
+-- 0 causes 1, which implies 2 and causes 4; 3 excludes 2 and suggests both. In which order it suggests them is left open.
+abbrev declined-order : (first second : ℕ) → Net
+declined-order x y =
+    record {
+      caps = 1 ∷ 1 ∷ 1 ∷ 1 ∷ 1 ∷ [];
+      rels = relation causes 0 1 ∷ relation suggests 3 x ∷ relation suggests 3 y ∷ relation implies 1 2 ∷ relation excludes 2 3 ∷ relation causes 1 4 ∷ [];
+    }
+
+-- the bytes of an exclusion of 0 and 1, and of each other kind in both directions
+abbrev all-kinds : List ℕ
+all-kinds = excludes ∷ 0 ∷ 1 ∷ concat-map (λ k. k ∷ 0 ∷ 1 ∷ k ∷ 1 ∷ 0 ∷ []) (causes ∷ implies ∷ requires ∷ suggests ∷ [])
 
 -- Every case starts with a fresh net. In the comments + activates and - deactivates.
 unfoldable pub cases : List Case
@@ -245,13 +261,13 @@ cases =
     ∷ loads (set (set pair-image 256 4) 0 0) (Refused 4)
     -- 5, before 6
     ∷ loads (set pair-image 0 0) (Refused 5)
-    ∷ loads (set (set pair-image 1 0) 2 5) (Refused 5)
+    ∷ loads (set (set pair-image 1 0) 2 6) (Refused 5)
     -- 6: the kind, an end, equal ends; of all relations before 7, and before 9
     ∷ loads (set pair-image 2 0) (Refused 6)
-    ∷ loads (set pair-image 2 5) (Refused 6)
+    ∷ loads (set pair-image 2 6) (Refused 6)
     ∷ loads (set pair-image 4 2) (Refused 6)
     ∷ loads (set (set pair-image 3 1) 5 1) (Refused 6)
-    ∷ loads (image edition-1 (record { caps = 3 ∷ 3 ∷ []; rels = relation causes 0 1 ∷ relation causes 0 1 ∷ relation 5 0 1 ∷ [] })) (Refused 6)
+    ∷ loads (image edition-1 (record { caps = 3 ∷ 3 ∷ []; rels = relation causes 0 1 ∷ relation causes 0 1 ∷ relation 6 0 1 ∷ [] })) (Refused 6)
     -- 7: the same, an exclusion exchanged; another kind's ends exchanged are no repetition
     ∷ loads (image edition-1 (record { caps = 3 ∷ 3 ∷ []; rels = relation causes 0 1 ∷ relation causes 0 1 ∷ [] })) (Refused 7)
     ∷ loads (image edition-1 (record { caps = 3 ∷ 3 ∷ []; rels = relation excludes 0 1 ∷ relation excludes 1 0 ∷ [] })) (Refused 7)
@@ -269,7 +285,7 @@ cases =
     ∷ composes (3 ∷ 3 ∷ []) (2 ∷ 0 ∷ []) 999 (Refused 3)
     ∷ composes (0 ∷ 3 ∷ []) (2 ∷ 0 ∷ []) 999 (Refused 3)
     ∷ composes (0 ∷ 3 ∷ []) (9 ∷ 0 ∷ 1 ∷ []) 999 (Refused 5)
-    ∷ composes (3 ∷ 3 ∷ []) (2 ∷ 0 ∷ 1 ∷ 2 ∷ 0 ∷ 1 ∷ 5 ∷ 0 ∷ 1 ∷ []) 0 (Refused 6)
+    ∷ composes (3 ∷ 3 ∷ []) (2 ∷ 0 ∷ 1 ∷ 2 ∷ 0 ∷ 1 ∷ 6 ∷ 0 ∷ 1 ∷ []) 0 (Refused 6)
     ∷ composes (3 ∷ 3 ∷ []) (2 ∷ 0 ∷ 2 ∷ []) 0 (Refused 6)
     ∷ composes (3 ∷ 3 ∷ []) (2 ∷ 1 ∷ 1 ∷ []) 0 (Refused 6)
     ∷ composes (3 ∷ 3 ∷ []) (2 ∷ 0 ∷ 1 ∷ 2 ∷ 0 ∷ 1 ∷ []) 0 (Refused 7)
@@ -334,6 +350,221 @@ cases =
     ∷ line Granted 1 0 (1 ∷ 1 ∷ [])
     ∷ line Granted 2 1 (0 ∷ 0 ∷ [])
     ∷ [])
+    -- Document 02, request c. A suggestion that is taken; where its source goes, by request or forced, the target stays.
+    ∷ run (record { caps = 2 ∷ 2 ∷ []; rels = relation suggests 0 1 ∷ [] }) (Activate 0 ∷ Deactivate 0 ∷ [])
+    (line Granted 2 0 (1 ∷ 1 ∷ []) ∷ line Granted 1 0 (0 ∷ 1 ∷ []) ∷ [])
+    ∷ run (record { caps = 1 ∷ 1 ∷ 1 ∷ []; rels = relation suggests 0 1 ∷ relation requires 0 2 ∷ [] }) (Activate 2 ∷ Activate 0 ∷ Deactivate 2 ∷ [])
+    (line Granted 1 0 (0 ∷ 0 ∷ 1 ∷ []) ∷ line Granted 2 0 (1 ∷ 1 ∷ 1 ∷ []) ∷ line Granted 2 1 (0 ∷ 1 ∷ 0 ∷ []) ∷ [])
+    -- one that is declined: by an exclusion, for want of what its target requires, and at the capacity, where the target is on
+    ∷ run (record { caps = 1 ∷ 1 ∷ 1 ∷ []; rels = relation suggests 0 1 ∷ relation excludes 1 2 ∷ [] }) (Activate 2 ∷ Activate 0 ∷ [])
+    (line Granted 1 0 (0 ∷ 0 ∷ 1 ∷ []) ∷ line Granted 2 0 (1 ∷ 0 ∷ 1 ∷ []) ∷ [])
+    ∷ run (record { caps = 1 ∷ 1 ∷ 1 ∷ []; rels = relation suggests 0 1 ∷ relation requires 1 2 ∷ [] }) (Activate 0 ∷ [])
+    (line Granted 2 0 (1 ∷ 0 ∷ 0 ∷ []) ∷ [])
+    ∷ run (record { caps = 2 ∷ 1 ∷ []; rels = relation suggests 0 1 ∷ [] }) (Activate 0 ∷ Activate 0 ∷ [])
+    (line Granted 2 0 (1 ∷ 1 ∷ []) ∷ line Granted 2 0 (2 ∷ 1 ∷ []) ∷ [])
+    ∷ fires (record { caps = 2 ∷ 1 ∷ []; rels = relation suggests 0 1 ∷ [] }) (Activate 0 ∷ []) (activation 0) (activates ∷ declines ∷ [])
+    -- two that suggest each other fill up, and the last token is declined
+    ∷ run (record { caps = 2 ∷ 2 ∷ []; rels = relation suggests 0 1 ∷ relation suggests 1 0 ∷ [] }) (Activate 1 ∷ []) (line Granted 5 0 (2 ∷ 2 ∷ []) ∷ [])
+    -- 15: what an implication asked for is declined, so the source of the implication is forced off again; nothing of it is kept, it
+    -- opens nothing and counts as refused
+    ∷ run declined-need (Activate 2 ∷ Activate 0 ∷ Undo ∷ Activate 0 ∷ [])
+    (line Granted 2 0 (0 ∷ 0 ∷ 1 ∷ [])
+    ∷ line (Refused 15) 3 1 (0 ∷ 0 ∷ 1 ∷ [])
+    ∷ line Granted 0 0 (0 ∷ 0 ∷ 0 ∷ [])
+    ∷ line Granted 2 0 (1 ∷ 1 ∷ 0 ∷ [])
+    ∷ [])
+    ∷ fires declined-need (Activate 2 ∷ []) (activation 0) (activates ∷ declines ∷ forces ∷ [])
+    ∷ totals declined-need (Activate 2 ∷ Activate 0 ∷ Undo ∷ Activate 0 ∷ []) 2 1 1
+    ∷ leaves-history declined-need (Activate 2 ∷ Activate 0 ∷ Undo ∷ Activate 0 ∷ []) (0 ∷ [])
+    -- what such a request brought along goes with it: 3, which 0 suggests, was on when the step ended
+    ∷ run
+    (record {
+      caps = 1 ∷ 1 ∷ 1 ∷ 1 ∷ [];
+      rels = relation implies 0 1 ∷ relation excludes 1 2 ∷ relation suggests 2 1 ∷ relation suggests 0 3 ∷ [];
+    })
+    (Activate 2 ∷ Activate 0 ∷ [])
+    (line Granted 2 0 (0 ∷ 0 ∷ 1 ∷ 0 ∷ []) ∷ line (Refused 15) 4 1 (0 ∷ 0 ∷ 1 ∷ 0 ∷ []) ∷ [])
+    -- the request's own token can be declined too, with the count where it was
+    ∷ run declined-need (Activate 2 ∷ Activate 1 ∷ []) (line Granted 2 0 (0 ∷ 0 ∷ 1 ∷ []) ∷ line (Refused 15) 1 0 (0 ∷ 0 ∷ 1 ∷ []) ∷ [])
+    ∷ run (record { caps = 2 ∷ 1 ∷ []; rels = relation suggests 0 1 ∷ [] }) (Activate 1 ∷ Activate 1 ∷ [])
+    (line Granted 1 0 (0 ∷ 1 ∷ []) ∷ line (Refused 15) 1 0 (0 ∷ 1 ∷ []) ∷ [])
+    -- Where act of the requested context fired, its count can still end where it was, or lower.
+    ∷ run (record { caps = 2 ∷ 1 ∷ 1 ∷ []; rels = relation suggests 0 1 ∷ relation causes 1 0 ∷ relation implies 1 2 ∷ relation excludes 1 2 ∷ relation suggests 2 0 ∷ relation suggests 1 2 ∷ [] }) (Activate 2 ∷ Deactivate 2 ∷ Activate 0 ∷ [])
+    (line Granted 3 0 (1 ∷ 0 ∷ 1 ∷ [])
+    ∷ line Granted 1 0 (1 ∷ 0 ∷ 0 ∷ [])
+    ∷ line (Refused 15) 6 1 (1 ∷ 0 ∷ 0 ∷ [])
+    ∷ [])
+    ∷ run (record { caps = 3 ∷ 1 ∷ 1 ∷ 1 ∷ []; rels = relation suggests 0 1 ∷ relation causes 1 0 ∷ relation causes 1 3 ∷ relation causes 3 0 ∷ relation implies 1 2 ∷ relation excludes 1 2 ∷ relation suggests 2 0 ∷ relation suggests 1 2 ∷ [] }) (Activate 2 ∷ Activate 0 ∷ Deactivate 2 ∷ Activate 0 ∷ [])
+    (line Granted 3 0 (1 ∷ 0 ∷ 1 ∷ 0 ∷ [])
+    ∷ line Granted 2 0 (2 ∷ 0 ∷ 1 ∷ 0 ∷ [])
+    ∷ line Granted 1 0 (2 ∷ 0 ∷ 0 ∷ 0 ∷ [])
+    ∷ line (Refused 15) 10 1 (2 ∷ 0 ∷ 0 ∷ 0 ∷ [])
+    ∷ [])
+    ∷ run (record { caps = 2 ∷ 1 ∷ 1 ∷ 1 ∷ []; rels = relation requires 0 1 ∷ relation suggests 0 2 ∷ relation causes 2 1 ∷ relation implies 2 3 ∷ relation excludes 2 3 ∷ relation suggests 3 1 ∷ relation suggests 2 3 ∷ [] }) (Activate 3 ∷ Activate 0 ∷ Deactivate 3 ∷ Activate 0 ∷ [])
+    (line Granted 2 0 (0 ∷ 1 ∷ 0 ∷ 1 ∷ [])
+    ∷ line Granted 2 0 (1 ∷ 1 ∷ 0 ∷ 1 ∷ [])
+    ∷ line Granted 1 0 (1 ∷ 1 ∷ 0 ∷ 0 ∷ [])
+    ∷ line (Refused 15) 8 3 (1 ∷ 1 ∷ 0 ∷ 0 ∷ [])
+    ∷ [])
+    -- 12 goes before 15: 0 is forced off as above, and what else it implied is left asked on and off
+    ∷ run
+    (record {
+      caps = 1 ∷ 1 ∷ 1 ∷ 1 ∷ [];
+      rels = relation implies 0 1 ∷ relation implies 0 3 ∷ relation excludes 1 2 ∷ relation excludes 3 2 ∷ relation suggests 2 1 ∷ [];
+    })
+    (Activate 2 ∷ Activate 0 ∷ [])
+    (line Granted 2 0 (0 ∷ 0 ∷ 1 ∷ 0 ∷ []) ∷ line (Refused 12) 3 1 (0 ∷ 0 ∷ 1 ∷ 0 ∷ []) ∷ [])
+    -- a deactivation ends with its context lower, and never meets 15
+    ∷ verdicts declined-need (Activate 2 ∷ Deactivate 2 ∷ Activate 0 ∷ Deactivate 1 ∷ []) (Granted ∷ Granted ∷ Granted ∷ Granted ∷ [])
+    -- a suggestion and an implication between the same two contexts, in both orders: the arcs are one, the transitions two
+    ∷ rows (record { caps = 1 ∷ 1 ∷ []; rels = relation suggests 0 1 ∷ relation implies 0 1 ∷ [] })
+    ((2 ∷ 0 ∷ 1 ∷ 0 ∷ 1 ∷ 2 ∷ 0 ∷ 0 ∷ 0 ∷ [])
+    ∷ (2 ∷ 1 ∷ 0 ∷ 1 ∷ 0 ∷ 0 ∷ 2 ∷ 0 ∷ 0 ∷ [])
+    ∷ (2 ∷ 0 ∷ 2 ∷ 0 ∷ 2 ∷ 0 ∷ 0 ∷ 0 ∷ 0 ∷ [])
+    ∷ (2 ∷ 2 ∷ 0 ∷ 2 ∷ 0 ∷ 0 ∷ 0 ∷ 0 ∷ 0 ∷ [])
+    ∷ (1 ∷ 0 ∷ 2 ∷ 0 ∷ 0 ∷ 0 ∷ 0 ∷ 0 ∷ 0 ∷ [])
+    ∷ (2 ∷ 1 ∷ 0 ∷ 0 ∷ 0 ∷ 0 ∷ 0 ∷ 2 ∷ 2 ∷ [])
+    ∷ [])
+    ∷ rows (record { caps = 1 ∷ 1 ∷ []; rels = relation implies 0 1 ∷ relation suggests 0 1 ∷ [] })
+    ((2 ∷ 0 ∷ 1 ∷ 0 ∷ 1 ∷ 2 ∷ 0 ∷ 0 ∷ 0 ∷ [])
+    ∷ (2 ∷ 1 ∷ 0 ∷ 1 ∷ 0 ∷ 0 ∷ 2 ∷ 0 ∷ 0 ∷ [])
+    ∷ (2 ∷ 0 ∷ 2 ∷ 0 ∷ 2 ∷ 0 ∷ 0 ∷ 0 ∷ 0 ∷ [])
+    ∷ (2 ∷ 2 ∷ 0 ∷ 2 ∷ 0 ∷ 0 ∷ 0 ∷ 0 ∷ 0 ∷ [])
+    ∷ (2 ∷ 1 ∷ 0 ∷ 0 ∷ 0 ∷ 0 ∷ 0 ∷ 2 ∷ 2 ∷ [])
+    ∷ (1 ∷ 0 ∷ 2 ∷ 0 ∷ 0 ∷ 0 ∷ 0 ∷ 0 ∷ 0 ∷ [])
+    ∷ [])
+    ∷ run (record { caps = 1 ∷ 1 ∷ 1 ∷ []; rels = relation suggests 0 1 ∷ relation implies 0 1 ∷ relation excludes 1 2 ∷ [] })
+    (Activate 0 ∷ Deactivate 0 ∷ Activate 2 ∷ Activate 0 ∷ [])
+    (line Granted 2 0 (1 ∷ 1 ∷ 0 ∷ [])
+    ∷ line Granted 2 0 (0 ∷ 0 ∷ 0 ∷ [])
+    ∷ line Granted 1 0 (0 ∷ 0 ∷ 1 ∷ [])
+    ∷ line (Refused 15) 3 1 (0 ∷ 0 ∷ 1 ∷ [])
+    ∷ [])
+    ∷ run (record { caps = 1 ∷ 1 ∷ 1 ∷ []; rels = relation implies 0 1 ∷ relation suggests 0 1 ∷ relation excludes 1 2 ∷ [] })
+    (Activate 0 ∷ Deactivate 0 ∷ Activate 2 ∷ Activate 0 ∷ [])
+    (line Granted 2 0 (1 ∷ 1 ∷ 0 ∷ [])
+    ∷ line Granted 2 0 (0 ∷ 0 ∷ 0 ∷ [])
+    ∷ line Granted 1 0 (0 ∷ 0 ∷ 1 ∷ [])
+    ∷ line (Refused 15) 3 1 (0 ∷ 0 ∷ 1 ∷ [])
+    ∷ [])
+    -- of two tokens each is declined by itself, though two suggestions have the same target
+    ∷ run (record { caps = 1 ∷ 1 ∷ 1 ∷ []; rels = relation suggests 0 1 ∷ relation excludes 1 2 ∷ relation suggests 1 2 ∷ relation suggests 0 2 ∷ [] }) (Activate 0 ∷ [])
+    (line Granted 4 0 (1 ∷ 1 ∷ 0 ∷ [])
+    ∷ [])
+    ∷ sizes (record { caps = 1 ∷ 1 ∷ 1 ∷ []; rels = relation suggests 0 1 ∷ relation excludes 1 2 ∷ relation suggests 1 2 ∷ relation suggests 0 2 ∷ [] }) 9 453 441 464
+    -- what is asked off does not keep a decline back
+    ∷ run (record { caps = 1 ∷ 1 ∷ 1 ∷ 1 ∷ []; rels = relation implies 0 1 ∷ relation implies 0 3 ∷ relation excludes 1 2 ∷ relation excludes 3 2 ∷ relation suggests 2 1 ∷ relation suggests 2 3 ∷ [] }) (Activate 2 ∷ Activate 0 ∷ [])
+    (line Granted 3 0 (0 ∷ 0 ∷ 1 ∷ 0 ∷ [])
+    ∷ line (Refused 12) 4 1 (0 ∷ 0 ∷ 1 ∷ 0 ∷ [])
+    ∷ [])
+    -- what is suggested suggests in its turn; what is only required does not suggest
+    ∷ run (record { caps = 1 ∷ 1 ∷ 1 ∷ []; rels = relation suggests 0 1 ∷ relation suggests 1 2 ∷ [] }) (Activate 0 ∷ [])
+    (line Granted 3 0 (1 ∷ 1 ∷ 1 ∷ [])
+    ∷ [])
+    ∷ run (record { caps = 1 ∷ 1 ∷ 2 ∷ []; rels = relation requires 0 1 ∷ relation suggests 1 2 ∷ [] }) (Activate 1 ∷ Activate 0 ∷ [])
+    (line Granted 2 0 (0 ∷ 1 ∷ 1 ∷ [])
+    ∷ line Granted 1 0 (1 ∷ 1 ∷ 1 ∷ [])
+    ∷ [])
+    -- a suggestion beside each other kind: the same ends, and the opposite ones
+    ∷ rows (record { caps = 1 ∷ 1 ∷ 1 ∷ []; rels = relation suggests 0 1 ∷ relation causes 0 1 ∷ relation implies 0 2 ∷ relation requires 1 2 ∷ relation causes 2 1 ∷ relation suggests 1 2 ∷ [] })
+    ((2 ∷ 0 ∷ 1 ∷ 0 ∷ 1 ∷ 6 ∷ 0 ∷ 0 ∷ 0 ∷ [])
+    ∷ (2 ∷ 1 ∷ 0 ∷ 1 ∷ 0 ∷ 0 ∷ 6 ∷ 0 ∷ 0 ∷ [])
+    ∷ (2 ∷ 4 ∷ 2 ∷ 0 ∷ 6 ∷ 4 ∷ 0 ∷ 0 ∷ 0 ∷ [])
+    ∷ (2 ∷ 2 ∷ 0 ∷ 2 ∷ 0 ∷ 0 ∷ 0 ∷ 0 ∷ 0 ∷ [])
+    ∷ (2 ∷ 0 ∷ 4 ∷ 0 ∷ 4 ∷ 2 ∷ 0 ∷ 0 ∷ 0 ∷ [])
+    ∷ (2 ∷ 4 ∷ 0 ∷ 4 ∷ 0 ∷ 0 ∷ 2 ∷ 0 ∷ 0 ∷ [])
+    ∷ (1 ∷ 0 ∷ 2 ∷ 0 ∷ 0 ∷ 0 ∷ 0 ∷ 0 ∷ 0 ∷ [])
+    ∷ (1 ∷ 0 ∷ 0 ∷ 2 ∷ 0 ∷ 0 ∷ 0 ∷ 2 ∷ 0 ∷ [])
+    ∷ (2 ∷ 1 ∷ 0 ∷ 0 ∷ 0 ∷ 0 ∷ 2 ∷ 4 ∷ 4 ∷ [])
+    ∷ (2 ∷ 2 ∷ 0 ∷ 0 ∷ 0 ∷ 0 ∷ 0 ∷ 4 ∷ 0 ∷ [])
+    ∷ (1 ∷ 0 ∷ 0 ∷ 2 ∷ 0 ∷ 0 ∷ 0 ∷ 2 ∷ 0 ∷ [])
+    ∷ (1 ∷ 0 ∷ 4 ∷ 0 ∷ 0 ∷ 0 ∷ 0 ∷ 0 ∷ 0 ∷ [])
+    ∷ [])
+    ∷ run (record { caps = 1 ∷ 1 ∷ 1 ∷ []; rels = relation requires 0 2 ∷ relation suggests 0 1 ∷ relation causes 0 1 ∷ [] }) (Activate 2 ∷ Activate 0 ∷ Deactivate 2 ∷ [])
+    (line Granted 1 0 (0 ∷ 0 ∷ 1 ∷ [])
+    ∷ line Granted 2 0 (1 ∷ 1 ∷ 1 ∷ [])
+    ∷ line Granted 3 1 (0 ∷ 0 ∷ 0 ∷ [])
+    ∷ [])
+    ∷ run (record { caps = 1 ∷ 2 ∷ []; rels = relation suggests 0 1 ∷ relation requires 0 1 ∷ [] }) (Activate 0 ∷ Activate 1 ∷ Activate 0 ∷ Deactivate 1 ∷ Deactivate 1 ∷ [])
+    (line (Refused 12) 0 0 (0 ∷ 0 ∷ [])
+    ∷ line Granted 1 0 (0 ∷ 1 ∷ [])
+    ∷ line Granted 2 0 (1 ∷ 2 ∷ [])
+    ∷ line Granted 1 0 (1 ∷ 1 ∷ [])
+    ∷ line Granted 2 1 (0 ∷ 0 ∷ [])
+    ∷ [])
+    ∷ run (record { caps = 1 ∷ 2 ∷ []; rels = relation requires 0 1 ∷ relation suggests 0 1 ∷ [] }) (Activate 1 ∷ Activate 0 ∷ Deactivate 1 ∷ Deactivate 1 ∷ [])
+    (line Granted 1 0 (0 ∷ 1 ∷ [])
+    ∷ line Granted 2 0 (1 ∷ 2 ∷ [])
+    ∷ line Granted 1 0 (1 ∷ 1 ∷ [])
+    ∷ line Granted 2 1 (0 ∷ 0 ∷ [])
+    ∷ [])
+    ∷ run (record { caps = 1 ∷ 1 ∷ []; rels = relation suggests 0 1 ∷ relation requires 1 0 ∷ [] }) (Activate 1 ∷ Activate 0 ∷ Deactivate 0 ∷ [])
+    (line (Refused 15) 1 0 (0 ∷ 0 ∷ [])
+    ∷ line Granted 2 0 (1 ∷ 1 ∷ [])
+    ∷ line Granted 2 1 (0 ∷ 0 ∷ [])
+    ∷ [])
+    ∷ run (record { caps = 1 ∷ 1 ∷ []; rels = relation requires 1 0 ∷ relation suggests 0 1 ∷ [] }) (Activate 1 ∷ Activate 0 ∷ Deactivate 0 ∷ [])
+    (line (Refused 15) 1 0 (0 ∷ 0 ∷ [])
+    ∷ line Granted 2 0 (1 ∷ 1 ∷ [])
+    ∷ line Granted 2 1 (0 ∷ 0 ∷ [])
+    ∷ [])
+    ∷ run (record { caps = 3 ∷ 1 ∷ []; rels = relation suggests 0 1 ∷ relation implies 1 0 ∷ [] }) (Activate 0 ∷ Deactivate 0 ∷ Deactivate 0 ∷ [])
+    (line Granted 4 0 (2 ∷ 1 ∷ [])
+    ∷ line Granted 1 0 (1 ∷ 1 ∷ [])
+    ∷ line Granted 2 1 (0 ∷ 0 ∷ [])
+    ∷ [])
+    ∷ run (record { caps = 3 ∷ 1 ∷ []; rels = relation implies 1 0 ∷ relation suggests 0 1 ∷ [] }) (Activate 0 ∷ Deactivate 0 ∷ Deactivate 0 ∷ [])
+    (line Granted 4 0 (2 ∷ 1 ∷ [])
+    ∷ line Granted 1 0 (1 ∷ 1 ∷ [])
+    ∷ line Granted 2 1 (0 ∷ 0 ∷ [])
+    ∷ [])
+    ∷ run (record { caps = 1 ∷ 1 ∷ []; rels = relation excludes 0 1 ∷ relation suggests 0 1 ∷ [] }) (Activate 0 ∷ Deactivate 0 ∷ Activate 1 ∷ Activate 0 ∷ [])
+    (line Granted 2 0 (1 ∷ 0 ∷ [])
+    ∷ line Granted 1 0 (0 ∷ 0 ∷ [])
+    ∷ line Granted 1 0 (0 ∷ 1 ∷ [])
+    ∷ line (Refused 12) 0 0 (0 ∷ 1 ∷ [])
+    ∷ [])
+    ∷ run (record { caps = 1 ∷ 1 ∷ []; rels = relation suggests 0 1 ∷ relation excludes 0 1 ∷ [] }) (Activate 0 ∷ Deactivate 0 ∷ Activate 1 ∷ Activate 0 ∷ [])
+    (line Granted 2 0 (1 ∷ 0 ∷ [])
+    ∷ line Granted 1 0 (0 ∷ 0 ∷ [])
+    ∷ line Granted 1 0 (0 ∷ 1 ∷ [])
+    ∷ line (Refused 12) 0 0 (0 ∷ 1 ∷ [])
+    ∷ [])
+    -- The lower priority: 1 is forced off before its suggestion of 4 is declined, so that 4, which 1 excludes, comes on.
+    ∷ run
+    (record {
+      caps = 1 ∷ 1 ∷ 1 ∷ 1 ∷ 1 ∷ [];
+      rels = relation causes 0 1 ∷ relation suggests 3 2 ∷ relation suggests 1 4 ∷ relation implies 1 2 ∷ relation excludes 1 4 ∷ relation excludes 2 3 ∷ [];
+    })
+    (Activate 3 ∷ Activate 0 ∷ [])
+    (line Granted 2 0 (0 ∷ 0 ∷ 0 ∷ 1 ∷ 0 ∷ []) ∷ line Granted 5 1 (1 ∷ 0 ∷ 0 ∷ 1 ∷ 1 ∷ []) ∷ [])
+    -- of two declines the one with the lower number: with that of 4 first, the activation of 0 switches 4 off
+    ∷ run (declined-order 4 2) (Activate 4 ∷ Activate 3 ∷ Activate 0 ∷ [])
+    (line Granted 1 0 (0 ∷ 0 ∷ 0 ∷ 0 ∷ 1 ∷ [])
+    ∷ line Granted 3 0 (0 ∷ 0 ∷ 0 ∷ 1 ∷ 1 ∷ [])
+    ∷ line Granted 6 1 (1 ∷ 0 ∷ 0 ∷ 1 ∷ 0 ∷ [])
+    ∷ [])
+    ∷ run (declined-order 2 4) (Activate 4 ∷ Activate 3 ∷ Activate 0 ∷ [])
+    (line Granted 1 0 (0 ∷ 0 ∷ 0 ∷ 0 ∷ 1 ∷ [])
+    ∷ line Granted 3 0 (0 ∷ 0 ∷ 0 ∷ 1 ∷ 1 ∷ [])
+    ∷ line Granted 6 1 (1 ∷ 0 ∷ 0 ∷ 1 ∷ 1 ∷ [])
+    ∷ [])
+    -- A suggestion in an image: its sizes; its ends are tested as those of any relation; the other direction, another source and another kind
+    -- are other relations; stated twice it is refused, and so is a kind of 255.
+    ∷ sizes (record { caps = 3 ∷ 3 ∷ []; rels = relation suggests 0 1 ∷ [] }) 5 248 245 258
+    ∷ composes (3 ∷ 3 ∷ []) (5 ∷ 0 ∷ 1 ∷ 5 ∷ 1 ∷ 0 ∷ []) 310 Granted
+    ∷ composes (3 ∷ 3 ∷ []) (5 ∷ 0 ∷ 1 ∷ 3 ∷ 0 ∷ 1 ∷ 5 ∷ 0 ∷ 1 ∷ []) 999 (Refused 7)
+    ∷ composes (3 ∷ 3 ∷ []) (255 ∷ 0 ∷ 1 ∷ []) 999 (Refused 6)
+    ∷ composes (3 ∷ 3 ∷ []) (5 ∷ 1 ∷ 1 ∷ []) 0 (Refused 6)
+    ∷ composes (3 ∷ 3 ∷ []) (5 ∷ 0 ∷ 2 ∷ []) 0 (Refused 6)
+    ∷ composes (3 ∷ 3 ∷ []) (5 ∷ 2 ∷ 0 ∷ []) 0 (Refused 6)
+    ∷ composes (3 ∷ 3 ∷ 3 ∷ []) (5 ∷ 0 ∷ 1 ∷ 5 ∷ 2 ∷ 1 ∷ 5 ∷ 0 ∷ 2 ∷ []) 461 Granted
+    ∷ composes (3 ∷ 3 ∷ []) all-kinds 625 Granted
+    ∷ composes (3 ∷ 3 ∷ []) all-kinds 624 (Refused 8)
+    -- loading one: whole, with a decline of priority 2, and with the records of another kind
+    ∷ loads (image edition-1 declined-need) Granted
+    ∷ loads (set (image edition-1 (record { caps = 3 ∷ 3 ∷ []; rels = relation suggests 0 1 ∷ [] })) 201 2) (Refused 9)
+    ∷ loads (set pair-image 2 suggests) (Refused 9)
     ∷ []
 
 -- tests of equality
@@ -349,6 +580,7 @@ role-number activates = 0
 role-number deactivates = 1
 role-number forces = 2
 role-number drops = 3
+role-number declines = 4
 
 abbrev request-number : Request → ℕ
 request-number r = 2 * r .context + bit (not (r .on))
@@ -404,5 +636,5 @@ holds (leaves-output caps rels out from bs) = equal-lists (drop from (compose ed
 
 -- All of them hold. A changed definition is refused here first.
 pub cases-hold : T (all holds cases)
-unfolding number all-below same has-zero misfit repeats-after matches related excluded asks-on asks-off act deac forced drop-of extra context-transitions extra-transitions transitions-of below-capacity ready-at ready enabled next fire stopped after-firing fire-until-quiet clear initial-marking concluded effect commit make-request undo-from settle reply tally-after respond reading board-at after log standing extend-by history set-bytes record-bytes relation-bytes trailer-bytes trailer records image bad-sizes compose trailer-of bad-layout net-of records-of other-records load six-conditions pair-image cases holds
+unfolding number all-below same has-zero misfit repeats-after matches related excluded asks-on asks-off act deac forced drop-of decline-of extra context-transitions extra-transitions transitions-of below-capacity ready-at ready enabled next fire stopped after-firing fire-until-quiet clear initial-marking concluded effect commit make-request undo-from settle reply tally-after respond reading board-at after log standing extend-by history set-bytes record-bytes relation-bytes trailer-bytes trailer records image bad-sizes compose trailer-of bad-layout net-of records-of other-records load six-conditions pair-image cases holds
 cases-hold = tt

@@ -11,9 +11,8 @@ use mathlib.Core.List.{List, [], _∷_, _++_, List·Memᴰ, reverse, map}
 use lib.Dec.{eqb}
 use lib.ListN.{length, drop, getD}
 use Rattle.model.specs.Sets.{Each, IsByte, any, count-passing}
-use Rattle.model.specs.Refusals
 use Rattle.model.specs.Refusals.{Check, refuse, first-refusal, is-granted}
-use Rattle.model.specs.Relations.{Net, size, relation-count, capacity, empty-net, related, has-zero, misfit, repeats, excludes, implies, requires}
+use Rattle.model.specs.Relations.{Net, Relation, size, relation-count, capacity, empty-net, related, has-zero, misfit, repeats, excludes, implies, requires, suggests}
 use Rattle.model.specs.Transitions.{Transition, is-forced}
 use Rattle.model.specs.Firing.{Marking, Outcome, next-of, clear}
 use Rattle.model.specs.Machine.{Request, Counts, Event, State, Tally, zeros, step-of, effect, without-firings, read-count, begin, after, log, standing, requested, history, replayed-calls, requests, adds-granted, adds-refused, adds-undone}
@@ -29,6 +28,10 @@ use Rattle.model.specs.declared.Verdict.the-variants.{Granted, Refused}
 -- no relation of the net meets refusal 6
 abbrev pub Fits : Net → Type 0
 Fits net = any (misfit (size net)) (net .rels) ≡ false
+
+-- no relation of the net is a suggestion, as in every net of document 01
+abbrev pub SuggestsNone : Net → Type 0
+SuggestsNone net = any (λ (r : Relation). eqb (r .kind) suggests) (net .rels) ≡ false
 
 -- a list of capacities and relations that a format admits: no check of composing but 8 refuses it
 pub record Valid (f : Format) (net : Net) : Type 0 where
@@ -78,9 +81,9 @@ InOrder cs =
 
 -- which refusals a call can meet
 abbrev pub call-refusals : Call → List ℕ
-call-refusals (Activate c) = Refusals.no-such-context ∷ Refusals.step-limit-met ∷ Refusals.tokens-left ∷ []
-call-refusals (Deactivate c) = Refusals.no-such-context ∷ Refusals.already-off ∷ Refusals.step-limit-met ∷ Refusals.tokens-left ∷ []
-call-refusals Undo = Refusals.nothing-open ∷ []
+call-refusals (Activate c) = 10 ∷ 11 ∷ 12 ∷ 15 ∷ []
+call-refusals (Deactivate c) = 10 ∷ 14 ∷ 11 ∷ 12 ∷ []
+call-refusals Undo = 13 ∷ []
 call-refusals Settle = []
 
 -- a step that made all its firings and could go on
@@ -93,7 +96,7 @@ pub record Quiet (net : Net) (o : Outcome) : Type 0 where
   pub quiet : o .quiet ≡ true
   pub still : next-of net (o .marking) ≡ none
 
--- a step as a granted request has it: nothing enabled, and nothing left on a temporary place
+-- a step that ended in order: nothing enabled, and nothing left on a temporary place
 pub record Completed (net : Net) (o : Outcome) : Type 0 where
   pub quiet : Quiet net o
   pub cleared : clear net (o .marking) ≡ true
@@ -109,6 +112,15 @@ pub record Admitted (net : Net) (m : Counts) (r : Request) : Type 0 where
   pub inside : r .context < size net
   pub active : r .on ≡ false → 0 < m (r .context)
 
+-- an activation between these counts that gained its context no token
+pub record Unraised (before : Counts) (r : Request) (after : Counts) : Type 0 where
+  pub activates : r .on ≡ true
+  pub no-higher : after (r .context) ≤ before (r .context)
+
+-- one that gained it some; of a deactivation this says nothing
+abbrev pub Raises : Counts → Request → Counts → Type 0
+Raises before r after = r .on ≡ true → before (r .context) < after (r .context)
+
 -- exactly when a request gets which verdict
 pub record Explained (net : Net) (m : Counts) (r : Request) : Type 0 where
   pub ten : (effect net m r .answer .verdict ≡ Refused 10) ↔ (size net ≤ r .context)
@@ -117,7 +129,12 @@ pub record Explained (net : Net) (m : Counts) (r : Request) : Type 0 where
   pub twelve :
       (effect net m r .answer .verdict ≡ Refused 12)
       ↔ (Admitted net m r × Quiet net (step-of net m r) × (clear net (step-of net m r .marking) ≡ false))
-  pub granted : (effect net m r .answer .verdict ≡ Granted) ↔ (Admitted net m r × Completed net (step-of net m r))
+  pub fifteen :
+      (effect net m r .answer .verdict ≡ Refused 15)
+      ↔ (Admitted net m r × Completed net (step-of net m r) × Unraised m r (step-of net m r .marking .count))
+  pub granted :
+      (effect net m r .answer .verdict ≡ Granted)
+      ↔ (Admitted net m r × Completed net (step-of net m r) × Raises m r (step-of net m r .marking .count))
   -- a granted request leaves the counts of its step's end, a refused one those before it
   pub moved : effect net m r .answer .verdict ≡ Granted → effect net m r .counts ≡ step-of net m r .marking .count
   pub kept : (k : ℕ) → effect net m r .answer .verdict ≡ Refused k → effect net m r .counts ≡ m
@@ -149,10 +166,16 @@ pub record Resting (net : Net) (m : Counts) : Type 0 where
   pub within : (c : ℕ) → c < size net → m c ≤ capacity net c
   pub still : next-of net (at-rest m) ≡ none
 
--- where the event is a granted request, it was one that makes a step, and the step completed
+-- a granted request between these counts: it makes a step, the step completed, and what it was to activate has more tokens than before
+pub record Carried (net : Net) (before after : Counts) (r : Request) : Type 0 where
+  pub admitted : Admitted net before r
+  pub completed : Completed net (step-of net before r)
+  pub raises : Raises before r after
+
+-- where the event is a granted request, it was carried out so
 abbrev pub Completes : Net → Event → Type 0
 Completes net e =
-    Each (λ (r : Request). is-granted (e .answer .verdict) ≡ true → Admitted net (e .before) r × Completed net (step-of net (e .before) r)) (requested (e .call))
+    Each (λ (r : Request). is-granted (e .answer .verdict) ≡ true → Carried net (e .before) (e .counts) r) (requested (e .call))
 
 -- the event of a request is what the request comes to at the counts before it: the answer, and the counts after
 pub record Made (net : Net) (e : Event) (r : Request) : Type 0 where

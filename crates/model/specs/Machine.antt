@@ -1,4 +1,4 @@
--- Document 01, "The machine", with refusals 10 to 13 and document 02's 14: requests, undo, settling, totals and readings; then lists of
+-- Document 01, "The machine", with refusals 10 to 13 and document 02's 14 and 15: requests, undo, settling, totals and readings; then lists of
 -- calls, the history of a list and its replay.
 -- Assumes nothing.
 use Prim.Native.Nat.{ℕ, min, _+_}
@@ -7,7 +7,7 @@ use mathlib.Core.List.{List, [], _∷_, _++_, map}
 use lib.Dec.{eqb, leb}
 use lib.ListN.{length, take, drop}
 use Rattle.model.specs.Sets.{singleton, bit, concat-map, drop-last}
-use Rattle.model.specs.Refusals.{Check, refuse, first-refusal, is-granted, no-such-context, step-limit-met, tokens-left, nothing-open, already-off}
+use Rattle.model.specs.Refusals.{Check, refuse, first-refusal, is-granted, no-such-context, step-limit-met, tokens-left, nothing-open, already-off, not-raised}
 use Rattle.model.specs.Relations.{Net, size}
 use Rattle.model.specs.Firing.{Marking, Outcome, forced-count, fire-until-quiet, step-limit, clear}
 use Rattle.model.specs.declared.Call.{Call}
@@ -62,9 +62,18 @@ asks-nothing m r = not (r .on) && eqb (m (r .context)) 0
 abbrev pub checks-before : Net → Counts → Request → List Check
 checks-before net m r = refuse no-such-context (leb (size net) (r .context)) ∷ refuse already-off (asks-nothing m r) ∷ []
 
--- and those when its step has ended
+-- an activation whose context holds no more tokens after its step than before it
+abbrev pub gains-nothing : Counts → Request → Counts → Bool
+gains-nothing before r after = r .on && leb (after (r .context)) (before (r .context))
+
+-- And those when its step has ended. The third is document 02's request c: a suggestion can swallow what the request, or a relation, asked
+-- on. A deactivation never meets it.
 abbrev pub checks-after : Net → Counts → Request → Outcome → List Check
-checks-after net m r o = refuse step-limit-met (not (o .quiet)) ∷ refuse tokens-left (not (clear net (o .marking))) ∷ []
+checks-after net m r o =
+    refuse step-limit-met (not (o .quiet))
+    ∷ refuse tokens-left (not (clear net (o .marking)))
+    ∷ refuse not-raised (gains-nothing m r (o .marking .count))
+    ∷ []
 
 -- what a request does to counts: the answer, and the counts after it
 pub record Effect : Type 0 where

@@ -1,4 +1,4 @@
--- Document 01, "When a call is refused", and document 02, request a: the fourteen numbers, and what it means that checks run in order.
+-- Document 01, "When a call is refused", and document 02, requests a and c: the fifteen numbers, and what it means that checks run in order.
 -- Assumes nothing.
 use Prim.Native.Nat.{ℕ}
 use mathlib.Core.Bool.{Bool, true, false}
@@ -58,9 +58,13 @@ tokens-left = 12
 abbrev pub nothing-open : ℕ
 nothing-open = 13
 
--- Refusal 14: the deactivation of a context whose count is 0.
+-- Refusal 14: switching off what is off already.
 abbrev pub already-off : ℕ
 already-off = 14
+
+-- Refusal 15: an activation whose step ended in order and left its context no higher than it was.
+abbrev pub not-raised : ℕ
+not-raised = 15
 
 -- The number that stands for a verdict in answers and listings: 0 for granted. Verdicts themselves are compared as values, because the
 -- type also has a Refused 0.

@@ -1,4 +1,5 @@
--- Document 01, "Places and relations": contexts, relations, nets, and the faults that refusals 5, 6 and 7 name.
+-- Document 01, "Places and relations", with the kind that document 02's request c adds: contexts, relations, nets, and the faults that
+-- refusals 5, 6 and 7 name.
 -- Assumes nothing.
 use Prim.Native.Nat.{ℕ}
 use mathlib.Core.Bool.{Bool, false, _&&_, _||_}
@@ -20,9 +21,12 @@ implies = 3
 abbrev pub requires : ℕ
 requires = 4
 
+abbrev pub suggests : ℕ
+suggests = 5
+
 -- the largest byte that is a kind
 abbrev pub last-kind : ℕ
-last-kind = requires
+last-kind = suggests
 
 -- a relation: its kind and its two ends
 pub record Relation : Type 0 where

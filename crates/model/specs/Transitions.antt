@@ -1,4 +1,4 @@
--- Document 01, "Transitions": the four forms, their arcs and priorities, and their numbers.
+-- Document 01, "Transitions", and document 02, request c: the five forms, their arcs and priorities, and their numbers.
 -- In the field's terms a transition takes from its input places, gives to its output places and is stopped by its inhibitor places.
 -- Every arc has weight 1, and since a set is a test, an arc that two relations ask for is one arc.
 -- Assumes nothing.
@@ -7,14 +7,15 @@ use mathlib.Core.Bool.{Bool, true, false, _&&_, _||_, not, cond}
 use mathlib.Core.List.{List, [], _∷_, _++_}
 use lib.Dec.{eqb}
 use Rattle.model.specs.Sets.{Set, empty-set, singleton, concat-map, range}
-use Rattle.model.specs.Relations.{Net, Relation, size, related, excluded, causes, implies, requires}
+use Rattle.model.specs.Relations.{Net, Relation, size, related, excluded, causes, implies, requires, suggests}
 
--- which of the four forms a transition has
+-- which of the five forms a transition has
 pub data Role : Type 0 where
   activates : Role
   deactivates : Role
   forces : Role
   drops : Role
+  declines : Role
 
 -- A transition, by the contexts of its places: a set each for context places, for the places Pr and for the places Pr¬ (here Not).
 -- No form has a place Pr¬ among its inhibitors.
@@ -36,21 +37,22 @@ forces-off activates = false
 forces-off deactivates = false
 forces-off forces = true
 forces-off drops = false
+forces-off declines = false
 
 -- whether a transition has it: document 02, request b counts the firings of these
 abbrev pub is-forced : Transition → Bool
 is-forced t = forces-off (t .role)
 
--- what act(a) asks on: whatever a causes or implies
+-- what act(a) asks on: whatever a causes, implies or suggests
 unfoldable pub asks-on : List Relation → ℕ → Set
-asks-on rels a b = related rels causes a b || related rels implies a b
+asks-on rels a b = related rels causes a b || related rels implies a b || related rels suggests a b
 
--- what deac(a), or forcing a off, asks off: whatever a causes or implies
+-- what deac(a), or forcing a off, asks off: whatever a causes or implies. What a suggests stays as it is.
 unfoldable pub asks-off : List Relation → ℕ → Set
 asks-off rels a b = related rels causes a b || related rels implies a b
 
--- act(c) turns a token of Pr(c) into one of c. It needs what c requires, which it takes and gives back; it asks on what c causes or
--- implies; a context excluded with c stops it.
+-- act(c) turns a token of Pr(c) into one of c. It needs what c requires, which it takes and gives back; it asks on what c causes,
+-- implies or suggests; a context excluded with c stops it.
 unfoldable pub act : List Relation → ℕ → Transition
 act rels c =
     record {
@@ -116,13 +118,31 @@ drop-of b =
       inhibPr = empty-set;
     }
 
+-- The decline of "a suggests b" swallows a token of Pr(b), whichever relation or request it came from (document 02, request c). Nothing
+-- inhibits it, but its priority is the lower one: it fires only where nothing of the higher one can.
+unfoldable pub decline-of : ℕ → Transition
+decline-of b =
+    record {
+      role = declines;
+      priority = 1;
+      takesContext = empty-set;
+      takesPr = singleton b;
+      takesNot = empty-set;
+      givesContext = empty-set;
+      givesPr = empty-set;
+      givesNot = empty-set;
+      inhibContext = empty-set;
+      inhibPr = empty-set;
+    }
+
 -- the extra transition of a relation; an exclusion has none
 unfoldable pub extra : List Relation → Relation → List Transition
 extra rels r =
     cond (eqb (r .kind) causes) (drop-of (r .b) ∷ [])
     (cond (eqb (r .kind) implies) (forced rels (r .a) (singleton (r .b)) (singleton (r .b)) ∷ [])
     (cond (eqb (r .kind) requires) (forced rels (r .a) (singleton (r .b)) empty-set ∷ [])
-    []))
+    (cond (eqb (r .kind) suggests) (decline-of (r .b) ∷ [])
+    [])))
 
 -- act(c) and deac(c), which have the numbers 2c and 2c + 1
 unfoldable pub context-transitions : List Relation → ℕ → List Transition

@@ -76,3 +76,6 @@ pub const NOTHING_OPEN: u8 = 13;
 
 // A deactivation of a context that is not active.
 pub const ALREADY_OFF: u8 = 14;
+
+// An activation that left its context no higher than it was.
+pub const NOT_RAISED: u8 = 15;

@@ -2,7 +2,7 @@
 ghost use mathlib.Core.List.{List};
 ghost use Prim.Native.Nat.{_+_, _*_, _<_, _≤_};
 ghost use Rattle.model.specs.Sets.{concat-map, range};
-ghost use Rattle.model.specs.Relations.{Relation};
+ghost use Rattle.model.specs.Relations.{Relation, excludes, last-kind};
 ghost use Rattle.model.specs.Transitions.{extra, context-transitions, extra-transitions, transitions-of};
 ghost use Rattle.relations.specs.Reading.{relation, relations-in, Composable};
 ghost use Rattle.relations.specs.Links.{Linked};
@@ -110,7 +110,7 @@ fn extra(
     inhibContext: &mut [u64; 192],
     inhibPr: &mut [u64; 192],
 ) -> usize
-    requires { ⌜ (1 ≤ k) × (k ≤ 4) × (a < 48) × (b < 48) × (t < 192) ⌝ }
+    requires { ⌜ (excludes ≤ k) × (k ≤ last-kind) × (a < 48) × (b < 48) × (t < 192) ⌝ }
     ensures { λ r. ⌜ ((rels : List Relation) → Linked rels (now (links .entry)) → Grown (columns (now (priority .entry)) (now (takesContext .entry)) (now (takesPr .entry)) (now (takesNot .entry)) (now (givesContext .entry)) (now (givesPr .entry)) (now (givesNot .entry)) (now (inhibContext .entry)) (now (inhibPr .entry))) t (columns (now (priority .exit)) (now (takesContext .exit)) (now (takesPr .exit)) (now (takesNot .exit)) (now (givesContext .exit)) (now (givesPr .exit)) (now (givesNot .exit)) (now (inhibContext .exit)) (now (inhibPr .exit))) r (extra rels (relation k a b))) ⌝ }
 {
     let it = match k {

@@ -9,13 +9,13 @@ use mathlib.Core.List.{List, [], _∷_, _++_, append-nil}
 use lib.ListN.{length, getD, drop, List·getD-append}
 use lib.Seq.{drop-cons, getD-at}
 use Rattle.model.specs.Sets.{concat-map, range}
-use Rattle.model.specs.Relations.{Relation}
+use Rattle.model.specs.Relations.{Relation, excludes, causes, last-kind}
 use Rattle.model.specs.Transitions.{Transition, act, deac, context-transitions, extra, extra-transitions, transitions-of}
 use Rattle.model.specs.Image.{record-bytes}
 use Rattle.model.proofs.Sizes.{length-concat-map, length-range, length-record}
 use Rattle.relations.specs.Reading.{relation, relation-at, first-relations, relations-in}
 use Rattle.relations.proofs.Reading.{first-more, length-first, length-relations-in}
-use Rattle.transitions.proofs.Counting.{extra-none, extra-one, transition-total}
+use Rattle.transitions.proofs.Counting.{extra-excluded, extra-one, transition-total}
 use Rattle.records.specs.Bytes.{context-bytes, extra-bytes}
 use Rattle.records.proofs.Puts.{concat-map-append}
 
@@ -75,12 +75,12 @@ module _ (rels : List Relation) where
   pub length-contexts : (n : ℕ) → length (concat-map (context-bytes rels) (range 0 n)) ≡ 98 * n
   length-contexts n = length-concat-map (context-bytes rels) 98 length-context (range 0 n) ∙ ap (λ (k : ℕ). 98 * k) (length-range 0 n)
 
-  -- a relation of the kinds 2, 3 and 4 adds one record, an exclusion none
+  -- an exclusion adds no record, any other relation one
   module _ (k a b : ℕ) where
-    pub extra-none-bytes : k ≡ 1 → extra-bytes rels (relation k a b) ≡ []
-    extra-none-bytes e = ap (concat-map (record-bytes 6)) (extra-none rels k a b (λ f. omega (arith, e, f)) (λ f. omega (arith, e, f)) (λ f. omega (arith, e, f)))
+    pub extra-none-bytes : k ≡ excludes → extra-bytes rels (relation k a b) ≡ []
+    extra-none-bytes e = ap (concat-map (record-bytes 6)) (extra-excluded rels k a b e)
 
-    pub length-extra : 2 ≤ k → k ≤ 4 → length (extra-bytes rels (relation k a b)) ≡ 49
+    pub length-extra : causes ≤ k → k ≤ last-kind → length (extra-bytes rels (relation k a b)) ≡ 49
     length-extra l h =
         length-concat-map (record-bytes 6) 49 (length-record 6) (extra rels (relation k a b)) ∙ ap (λ (n : ℕ). 49 * n) (extra-one rels k a b l h)
 

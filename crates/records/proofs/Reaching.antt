@@ -7,7 +7,7 @@ use mathlib.Core.Path.{_≡_, refl, sym, subst, ap, _∙_}
 use mathlib.Core.List.{List, [], _∷_, _++_, append-nil}
 use lib.ListN.{length, length-append}
 use Rattle.model.specs.Sets.{concat-map}
-use Rattle.model.specs.Relations.{Relation, causes, requires}
+use Rattle.model.specs.Relations.{Relation, causes, last-kind}
 use Rattle.model.specs.Transitions.{extra}
 use Rattle.relations.specs.Reading.{relation-at, first-relations}
 use Rattle.relations.proofs.Reading.{first-more}
@@ -32,7 +32,7 @@ module _ (rels : List Relation) (bs : List ℕ) where
       omega (arith, grows i d, m, ap length (extras-more rels bs (i + d)), length-append (concat-map (extra rels) (first-relations (i + d) bs)) (extra rels (relation-at bs (i + d))))
 
   -- a relation with a transition of its own leaves room for it
-  pub extra-room : (i r : ℕ) → i < r → causes ≤ relation-at bs i .kind → relation-at bs i .kind ≤ requires
+  pub extra-room : (i r : ℕ) → i < r → causes ≤ relation-at bs i .kind → relation-at bs i .kind ≤ last-kind
       → length (concat-map (extra rels) (first-relations i bs)) + 1 ≤ length (concat-map (extra rels) (first-relations r bs))
   extra-room i r h l m = subst (λ (k : ℕ). length (concat-map (extra rels) (first-relations i bs)) + 1 ≤ length (concat-map (extra rels) (first-relations k bs))) (whole .1) below
     where

@@ -4,7 +4,7 @@ ghost use mathlib.Core.List.{List, _++_};
 ghost use Prim.Native.Nat.{ℕ, _+_, _*_, _<_, _≤_};
 ghost use lib.ListN.{length, take, drop};
 ghost use Rattle.model.specs.Sets.{concat-map, range, equal-lists};
-ghost use Rattle.model.specs.Relations.{Relation};
+ghost use Rattle.model.specs.Relations.{Relation, excludes, last-kind};
 ghost use Rattle.model.specs.Transitions.{Transition, extra-transitions, transitions-of};
 ghost use Rattle.model.specs.Image.{from-bytes, record-bytes};
 ghost use Rattle.relations.specs.Reading.{relation, relations-in, Checked, Composable};
@@ -91,7 +91,7 @@ fn same_contexts(bytes: &[u8], links: &[u64; 240], n: usize) -> bool
 
 // Whether the bytes from an offset on are the record of a relation's extra transition. An exclusion has none, and so nothing differs.
 fn same_extra(bytes: &[u8], at: usize, links: &[u64; 240], k: u8, a: usize, b: usize) -> bool
-    requires { ⌜ (1 ≤ k) × (k ≤ 4) × (a < 48) × (b < 48) × ((k ≡ 1 → ⊥) → at + 49 ≤ length (now bytes)) ⌝ }
+    requires { ⌜ (excludes ≤ k) × (k ≤ last-kind) × (a < 48) × (b < 48) × ((k ≡ 1 → ⊥) → at + 49 ≤ length (now bytes)) ⌝ }
     ensures { λ r. ⌜ ((rels : List Relation) → Linked rels (now (links .entry)) → r ≡ agrees (now (bytes .entry)) at (extra-bytes rels (relation k a b))) ⌝ }
 {
     match k {
@@ -102,7 +102,7 @@ fn same_extra(bytes: &[u8], at: usize, links: &[u64; 240], k: u8, a: usize, b: u
 
 // How many bytes of records a relation of this kind adds.
 fn extra_size(k: u8) -> usize
-    requires { ⌜ (1 ≤ k) × (k ≤ 4) ⌝ }
+    requires { ⌜ (excludes ≤ k) × (k ≤ last-kind) ⌝ }
     ensures { λ r. ⌜ ((rels : List Relation) (a b : ℕ) → r ≡ length (extra-bytes rels (relation k a b))) ⌝ }
 {
     match k {

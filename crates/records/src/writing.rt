@@ -4,7 +4,7 @@ ghost use mathlib.Core.List.{List, _++_};
 ghost use Prim.Native.Nat.{ℕ, _+_, _*_, _<_, _≤_};
 ghost use lib.ListN.{length};
 ghost use Rattle.model.specs.Sets.{concat-map, range};
-ghost use Rattle.model.specs.Relations.{Relation};
+ghost use Rattle.model.specs.Relations.{Relation, excludes, last-kind};
 ghost use Rattle.model.specs.Transitions.{Transition, extra-transitions, transitions-of};
 ghost use Rattle.model.specs.Image.{edition-1, record-bytes, trailer, trailer-bytes};
 ghost use Rattle.relations.specs.Reading.{relation, relations-in, Checked, Composable};
@@ -84,7 +84,7 @@ fn write_contexts(out: &mut [u8], at: usize, links: &[u64; 240], n: usize)
 
 // The record of the extra transition of a relation, where it has one, behind those that stand there. Answers where the next one stands.
 fn write_extra(out: &mut [u8], at: usize, links: &[u64; 240], k: u8, a: usize, b: usize) -> usize
-    requires { ⌜ (1 ≤ k) × (k ≤ 4) × (a < 48) × (b < 48) × ((k ≡ 1 → ⊥) → at + 51 ≤ length (now out)) ⌝ }
+    requires { ⌜ (excludes ≤ k) × (k ≤ last-kind) × (a < 48) × (b < 48) × ((k ≡ 1 → ⊥) → at + 51 ≤ length (now out)) ⌝ }
     ensures { λ r. ⌜ ((rels : List Relation) (l : List ℕ) (start : ℕ) (bytes : List ℕ) → Linked rels (now (links .entry)) → Reaches l start bytes (now (out .entry)) at → Reaches l start (bytes ++ extra-bytes rels (relation k a b)) (now (out .exit)) r) ⌝ }
 {
     match k {

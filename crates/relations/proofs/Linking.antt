@@ -1,6 +1,6 @@
 -- One relation more: what it adds to the sets that relations link.
 -- Assumes nothing.
-use Prim.Native.Nat.{ℕ, _+_, _*_, _/_, _%_, _<_}
+use Prim.Native.Nat.{ℕ, _+_, _*_, _/_, _%_, _<_, _≤_}
 use native.Mathlib.Decide.{ℕ-discrete}
 use native.Mathlib.Omega.{arith}
 use mathlib.Core.Bool.{Bool, true, false, _&&_, _||_, cond}
@@ -13,10 +13,10 @@ use Rattle.sets.specs.Sets.{members, insert, mark}
 use Rattle.sets.proofs.Laws.{or-false, same-bool}
 use Rattle.sets.proofs.Rows.{rows-none, rows-same, rows-mark}
 use Rattle.model.specs.Sets.{Set, number, empty-set}
-use Rattle.model.specs.Relations.{Relation, matches, related, excluded, excludes}
+use Rattle.model.specs.Relations.{Relation, matches, related, excluded, excludes, last-kind}
 use Rattle.model.proofs.Tests.{and-both, and-left, and-right}
 use Rattle.relations.specs.Reading.{relation, first-relations}
-use Rattle.relations.specs.Links.{word-of, ends, Grid, Linked}
+use Rattle.relations.specs.Links.{word-of, grid-words, ends, Grid, Linked}
 use Rattle.relations.proofs.Reading.{same-parts, first-more, any-snoc}
 
 pub eqb-sym : (x y : ℕ) → eqb x y ≡ eqb y x
@@ -82,34 +82,34 @@ abbrev pub add : (k a b : ℕ) → (ℕ → ℕ → Set) → ℕ → ℕ → Set
 add k a b G q x y = G q x y || (eqb q k && eqb x a && eqb y b)
 
 -- the set of a word
-pub grid-word : {words : List ℕ} (G : ℕ → ℕ → Set) → Grid words G → (k a : ℕ) → k < 5 → a < 48 → getD words (word-of k a) 0 ≡ number 64 (G k a)
-grid-word G has k a l m =
-    let q : word-of k a / 48 ≡ k = omega arith in
+pub grid-word : {words : List ℕ} (G : ℕ → ℕ → Set) → Grid words G → (k a : ℕ) → excludes ≤ k → k ≤ last-kind → a < 48 → getD words (word-of k a) 0 ≡ number 64 (G k a)
+grid-word G has k a f l m =
+    let q : word-of k a / 48 + excludes ≡ k = omega arith in
     let r : word-of k a % 48 ≡ a = omega arith in
     has .row (word-of k a) (omega arith) ∙ ap₂ (λ (x y : ℕ). number 64 (G x y)) q r
 
 -- the same sets by another name
 grid-same : {words : List ℕ} (F G : ℕ → ℕ → Set) → Grid words F → ((q x y : ℕ) → F q x y ≡ G q x y) → Grid words G
-grid-same F G has e = rows-same 64 240 (λ i. F (i / 48) (i % 48)) (λ i. G (i / 48) (i % 48)) has (λ i _ y _. e (i / 48) (i % 48) y)
+grid-same F G has e = rows-same 64 grid-words (λ i. F (i / 48 + excludes) (i % 48)) (λ i. G (i / 48 + excludes) (i % 48)) has (λ i _ y _. e (i / 48 + excludes) (i % 48) y)
 
 -- a word is that of its kind and its context alone
-one-word : (i k a : ℕ) → a < 48 → eqb i (word-of k a) ≡ (eqb (i / 48) k && eqb (i % 48) a)
-one-word i k a m =
-    same-bool (eqb i (word-of k a)) (eqb (i / 48) k && eqb (i % 48) a)
-    (λ e. let x = eqb-true i (word-of k a) e in and-both (eq-eqb (i / 48) k (omega arith)) (eq-eqb (i % 48) a (omega arith)))
-    (λ e. let x = eqb-true (i / 48) k (and-left (eqb (i / 48) k) (eqb (i % 48) a) e) in let y = eqb-true (i % 48) a (and-right (eqb (i / 48) k) (eqb (i % 48) a) e) in eq-eqb i (word-of k a) (omega arith))
+one-word : (i k a : ℕ) → excludes ≤ k → a < 48 → eqb i (word-of k a) ≡ (eqb (i / 48 + excludes) k && eqb (i % 48) a)
+one-word i k a f m =
+    same-bool (eqb i (word-of k a)) (eqb (i / 48 + excludes) k && eqb (i % 48) a)
+    (λ e. let x = eqb-true i (word-of k a) e in and-both (eq-eqb (i / 48 + excludes) k (omega arith)) (eq-eqb (i % 48) a (omega arith)))
+    (λ e. let x = eqb-true (i / 48 + excludes) k (and-left (eqb (i / 48 + excludes) k) (eqb (i % 48) a) e) in let y = eqb-true (i % 48) a (and-right (eqb (i / 48 + excludes) k) (eqb (i % 48) a) e) in eq-eqb i (word-of k a) (omega arith))
 
 -- one word takes one member more
-grid-add : {words : List ℕ} (G : ℕ → ℕ → Set) (k a b : ℕ) → Grid words G → k < 5 → a < 48
+grid-add : {words : List ℕ} (G : ℕ → ℕ → Set) (k a b : ℕ) → Grid words G → excludes ≤ k → k ≤ last-kind → a < 48
     → Grid (set words (word-of k a) (number 64 (insert b (members (getD words (word-of k a) 0))))) (add k a b G)
-grid-add G k a b has l m =
-    let F : ℕ → Set = λ i. G (i / 48) (i % 48) in
-    rows-same 64 240 (mark (word-of k a) b F) (λ i. add k a b G (i / 48) (i % 48)) (rows-mark 64 240 F has (word-of k a) b _ (omega arith) refl)
-    (λ i _ y _. ap (λ (t : Bool). F i y || (t && eqb y b)) (one-word i k a m))
+grid-add G k a b has f l m =
+    let F : ℕ → Set = λ i. G (i / 48 + excludes) (i % 48) in
+    rows-same 64 grid-words (mark (word-of k a) b F) (λ i. add k a b G (i / 48 + excludes) (i % 48)) (rows-mark 64 grid-words F has (word-of k a) b _ (omega arith) refl)
+    (λ i _ y _. ap (λ (t : Bool). F i y || (t && eqb y b)) (one-word i k a f m))
 
 pub joined : {words after : List ℕ} (G : ℕ → ℕ → Set) (k a b : ℕ)
-    → after ≡ set words (word-of k a) (number 64 (insert b (members (getD words (word-of k a) 0)))) → k < 5 → a < 48 → Grid words G → Grid after (add k a b G)
-joined G k a b e l m has = subst (λ (w : List ℕ). Grid w (add k a b G)) (sym e) (grid-add G k a b has l m)
+    → after ≡ set words (word-of k a) (number 64 (insert b (members (getD words (word-of k a) 0)))) → excludes ≤ k → k ≤ last-kind → a < 48 → Grid words G → Grid after (add k a b G)
+joined G k a b e f l m has = subst (λ (w : List ℕ). Grid w (add k a b G)) (sym e) (grid-add G k a b has f l m)
 
 module _ (rels : List Relation) (k a b : ℕ) {words : List ℕ} where
   pub linked-plain : (k ≡ excludes → ⊥) → Grid words (add k a b (ends rels)) → Linked (rels ++ (relation k a b ∷ [])) words
@@ -119,9 +119,9 @@ module _ (rels : List Relation) (k a b : ℕ) {words : List ℕ} where
   linked-exclusion e has = grid-same (add k b a (add k a b (ends rels))) (ends (rels ++ (relation k a b ∷ []))) has (ends-both rels k a b e)
 
 -- no relation links anything
-pub linked-none : Linked [] (replicate 240 0)
+pub linked-none : Linked [] (replicate grid-words 0)
 unfolding ends excluded related
-linked-none = rows-same 64 240 (λ i. empty-set) (λ i. ends [] (i / 48) (i % 48)) (rows-none 64 240) (λ i _ y _. empty (eqb (i / 48) excludes) y)
+linked-none = rows-same 64 grid-words (λ i. empty-set) (λ i. ends [] (i / 48 + excludes) (i % 48)) (rows-none 64 grid-words) (λ i _ y _. empty (eqb (i / 48 + excludes) excludes) y)
   where
     empty : (t : Bool) (y : ℕ) → false ≡ cond {A = Set} t (λ b. false) (λ b. false) y
     empty true y = refl

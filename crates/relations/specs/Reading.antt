@@ -25,7 +25,7 @@ first-relations i bs = read-relations edition-1 i bs
 abbrev pub relations-in : List ℕ → List Relation
 relations-in bs = first-relations (length bs / 3) bs
 
--- the bytes passed check 6 for some number of contexts that a net may have: each relation's kind is one of the four, and its ends
+-- the bytes passed check 6 for some number of contexts that a net may have: each relation's kind is one of the five, and its ends
 -- are two of these contexts
 pub record Checked (bs : List ℕ) : Type 0 where
   pub n : ℕ

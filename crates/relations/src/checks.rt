@@ -53,7 +53,7 @@ fn misfit(k: u8, a: usize, b: usize, n: usize) -> bool
     ensures { λ r. ⌜ r ≡ misfit n (relation k a b) ⌝ }
 {
     match k {
-        1 | 2 | 3 | 4 => (n <= a) | (n <= b) | (a == b),
+        1 | 2 | 3 | 4 | 5 => (n <= a) | (n <= b) | (a == b),
         _ => true,
     }
 }

@@ -5,22 +5,22 @@ ghost use Prim.Native.Nat.{ℕ, _+_, _*_, _<_, _≤_};
 ghost use lib.ListN.{getD, set};
 ghost use Rattle.sets.specs.Sets.{members, insert};
 ghost use Rattle.model.specs.Sets.{any, number};
-ghost use Rattle.model.specs.Relations.{Relation, same, repeats};
+ghost use Rattle.model.specs.Relations.{Relation, excludes, last-kind, same, repeats};
 ghost use Rattle.relations.specs.Reading.{relation, relations-in, Checked};
 ghost use Rattle.relations.specs.Links.{word-of, Linked};
 use crate::checks;
 
 // Where the word of a kind and a context stands. No branch asks for the kind.
 fn word_of(k: u8, a: usize) -> usize
-    requires { ⌜ (k ≤ 4) × (a < 48) ⌝ }
+    requires { ⌜ (excludes ≤ k) × (k ≤ last-kind) × (a < 48) ⌝ }
     ensures { λ r. ⌜ (r ≡ word-of k a) × (r < 240) ⌝ }
 {
-    48 * (k as usize) + a
+    48 * (k as usize - 1) + a
 }
 
 // The word of a kind and a context.
 pub fn word(links: &[u64; 240], k: u8, a: usize) -> u64
-    requires { ⌜ (k ≤ 4) × (a < 48) ⌝ }
+    requires { ⌜ (excludes ≤ k) × (k ≤ last-kind) × (a < 48) ⌝ }
     ensures { λ r. ⌜ r ≡ getD (now (links .entry)) (word-of k a) 0 ⌝ }
 {
     links[word_of(k, a)]
@@ -28,7 +28,7 @@ pub fn word(links: &[u64; 240], k: u8, a: usize) -> u64
 
 // b joins the set of a.
 fn mark(links: &mut [u64; 240], k: u8, a: usize, b: usize)
-    requires { ⌜ (k ≤ 4) × (a < 48) × (b < 48) ⌝ }
+    requires { ⌜ (excludes ≤ k) × (k ≤ last-kind) × (a < 48) × (b < 48) ⌝ }
     ensures { λ _. ⌜ now (links .exit) ≡ set (now (links .entry)) (word-of k a) (number 64 (insert b (members (getD (now (links .entry)) (word-of k a) 0)))) ⌝ }
 {
     let at = word_of(k, a);
@@ -37,7 +37,7 @@ fn mark(links: &mut [u64; 240], k: u8, a: usize, b: usize)
 
 // One relation more: an exclusion links both ways.
 fn link(links: &mut [u64; 240], k: u8, a: usize, b: usize)
-    requires { ⌜ (k ≤ 4) × (a < 48) × (b < 48) ⌝ }
+    requires { ⌜ (excludes ≤ k) × (k ≤ last-kind) × (a < 48) × (b < 48) ⌝ }
     ensures { λ _. ⌜ ((rels : List Relation) → Linked rels (now (links .entry)) → Linked (rels ++ (relation k a b ∷ [])) (now (links .exit))) ⌝ }
 {
     match k {
@@ -49,9 +49,9 @@ fn link(links: &mut [u64; 240], k: u8, a: usize, b: usize)
     }
 }
 
-// Whether a relation of a kind 1 to 4 links what an earlier one links already.
+// Whether a relation links what an earlier one links already.
 fn linked(links: &[u64; 240], k: u8, a: usize, b: usize) -> bool
-    requires { ⌜ (k ≤ 4) × (a < 48) × (b < 48) ⌝ }
+    requires { ⌜ (excludes ≤ k) × (k ≤ last-kind) × (a < 48) × (b < 48) ⌝ }
     ensures { λ r. ⌜ ((rels : List Relation) → Linked rels (now (links .entry)) → r ≡ any (same (relation k a b)) rels) ⌝ }
 {
     sets::member(word(links, k, a), b)

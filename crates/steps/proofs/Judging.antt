@@ -13,10 +13,10 @@ use lib.Seq.{getD-set-same, getD-set-other}
 use Rattle.sets.specs.Sets.{upto}
 use Rattle.sets.proofs.Laws.{none-holds, below-narrow, below-cong}
 use Rattle.model.specs.Sets.{Set, singleton, bit, number, all-below}
-use Rattle.model.specs.Refusals.{refuse, first-refusal, no-such-context, already-off, step-limit-met, tokens-left}
+use Rattle.model.specs.Refusals.{refuse, first-refusal, no-such-context, already-off, step-limit-met, tokens-left, not-raised}
 use Rattle.model.specs.Relations.{Net, size}
 use Rattle.model.specs.Firing.{Marking, Outcome, holds-token, is-empty, clear, fire-until-quiet, step-limit}
-use Rattle.model.specs.Machine.{Request, Counts, Effect, initial-marking, step-of, concluded, effect, without-firings, with-firings}
+use Rattle.model.specs.Machine.{Request, Counts, Effect, initial-marking, step-of, gains-nothing, concluded, effect, without-firings, with-firings}
 use Rattle.model.specs.declared.Answer.{Answer}
 use Rattle.model.specs.declared.Verdict.{Verdict}
 use Rattle.model.specs.declared.Verdict.the-variants.{Granted, Refused}
@@ -140,12 +140,16 @@ inside-before n counts r e = leb-false n (r .context) (passed (leb n (r .context
     passed false off e = refl
     passed true off e = let z : _≡_ {A = ℕ} 0 1 = cc in absurd (omega arith)
 
+-- the verdict, by the three tests when the step has ended
+abbrev pub verdict-by : (quiet clear low : Bool) → Verdict
+verdict-by quiet clear low = first-refusal (refuse step-limit-met (not quiet) ∷ refuse tokens-left (not clear) ∷ refuse not-raised low ∷ [])
+
 -- what a request comes to, by that verdict
 abbrev effect-by : Net → List ℕ → Request → Verdict → Effect
 effect-by net counts r v =
     elim v as (λ _. Effect) [
       | Granted ↦ concluded (counts-of counts) (step-of net (counts-of counts) r)
-          (first-refusal (refuse step-limit-met (not (step-of net (counts-of counts) r .quiet)) ∷ refuse tokens-left (not (clear net (step-of net (counts-of counts) r .marking))) ∷ []))
+          (verdict-by (step-of net (counts-of counts) r .quiet) (clear net (step-of net (counts-of counts) r .marking)) (gains-nothing (counts-of counts) r (step-of net (counts-of counts) r .marking .count)))
       | Refused j ↦ record { answer = without-firings (Refused j); counts = counts-of counts }
     ]
 
@@ -160,9 +164,10 @@ pub judges-before : (net : Net) (counts : List ℕ) (r : Request) {n k : ℕ} �
 judges-before net counts r {n} {k} e q =
     subst (Judges (without-firings (Refused k)) counts) (sym (effect-at net counts r e q)) (record { answer = refl; counts = refl })
 
--- the verdict, by the two tests when the step has ended
-abbrev pub verdict-by : (quiet clear : Bool) → Verdict
-verdict-by quiet clear = first-refusal (refuse step-limit-met (not quiet) ∷ refuse tokens-left (not clear) ∷ [])
+-- that verdict as it is told from the end of a step between these counts
+abbrev pub verdict-told : Stepped → Request → (before after : List ℕ) → Verdict
+verdict-told e r before after =
+    verdict-by (e .quiet) (eqb (e .marked .pr) 0 && eqb (e .marked .prNot) 0) (r .on && leb (getD after (r .context) 0) (getD before (r .context) 0))
 
 -- a request that makes a step: the step's end, and the words that it is told from
 module _ {net : Net} {n t : ℕ} {cols : Columns} {capacities counts temps counts′ temps′ : List ℕ} {e : Stepped} (r : Request) (h : Granted ≡ verdict-at n counts r) (d : Describes net n t cols capacities)
@@ -173,17 +178,23 @@ module _ {net : Net} {n t : ℕ} {cols : Columns} {capacities counts temps count
   ended : Outcomes e (marking counts′ temps′) o
   ended = subst (λ (m : Marking). Outcomes e (marking counts′ temps′) (fire-until-quiet net step-limit m)) token (end .outcome net d)
 
-  verdict-is : verdict-by (e .quiet) (eqb (e .marked .pr) 0 && eqb (e .marked .prNot) 0) ≡ verdict-by (o .quiet) (clear net (o .marking))
-  verdict-is =
-      ap₂ verdict-by (ended .quiet)
-      (clear-is net n (end .stands .few) (d .contexts) (below capacities counts′) (marking counts′ temps′) (e .marked) (end .stands .shows) ∙ ap (clear net) (ended .marking))
+  abbrev verdict-due : Verdict
+  verdict-due = verdict-by (o .quiet) (clear net (o .marking)) (gains-nothing (counts-of counts) r (o .marking .count))
 
-  effect-is : effect net (counts-of counts) r ≡ concluded (counts-of counts) o (verdict-by (o .quiet) (clear net (o .marking)))
+  verdict-is : verdict-told e r counts counts′ ≡ verdict-due
+  verdict-is =
+      λ i. verdict-by (ended .quiet i)
+      ((clear-is net n (end .stands .few) (d .contexts) (below capacities counts′) (marking counts′ temps′) (e .marked) (end .stands .shows) ∙ ap (clear net) (ended .marking)) i)
+      (gains-nothing (counts-of counts) r (ended .marking i .count))
+
+  effect-is : effect net (counts-of counts) r ≡ concluded (counts-of counts) o verdict-due
   effect-is = effect-at net counts r (d .contexts) h
 
-  -- the effect, where this is the verdict
-  effect-with : (v : Verdict) → v ≡ verdict-by (e .quiet) (eqb (e .marked .pr) 0 && eqb (e .marked .prNot) 0) → effect net (counts-of counts) r ≡ concluded (counts-of counts) o v
-  effect-with v q = effect-is ∙ ap (concluded (counts-of counts) o) (sym (q ∙ verdict-is))
+  -- the effect, where this is the verdict; the counts before the step are read off a copy
+  effect-with : (v : Verdict) {copy : List ℕ} → copy ≡ counts → v ≡ verdict-told e r copy counts′
+      → effect net (counts-of counts) r ≡ concluded (counts-of counts) o v
+  effect-with v k q =
+      effect-is ∙ ap (concluded (counts-of counts) o) (sym (q ∙ ap (λ (l : List ℕ). verdict-told e r l counts′) k ∙ verdict-is))
 
   -- the answer that tells of the step
   abbrev told : Verdict → Answer
@@ -192,15 +203,15 @@ module _ {net : Net} {n t : ℕ} {cols : Columns} {capacities counts temps count
   told-is : (v : Verdict) → told v ≡ with-firings o v
   told-is v = ap₂ (λ (k j : ℕ). record { verdict = v; firings = k; forced = j }) (ended .firings) (ended .forced)
 
-  pub judges-granted : Granted ≡ verdict-by (e .quiet) (eqb (e .marked .pr) 0 && eqb (e .marked .prNot) 0)
+  pub judges-granted : {copy : List ℕ} → copy ≡ counts → Granted ≡ verdict-told e r copy counts′
       → Judges (told Granted) counts′ (effect net (counts-of counts) r)
   unfolding concluded
-  judges-granted q =
-      subst (Judges (told Granted) counts′) (sym (effect-with Granted q))
+  judges-granted k q =
+      subst (Judges (told Granted) counts′) (sym (effect-with Granted k q))
       (record { answer = told-is Granted; counts = ap (λ (m : Marking). m .count) (ended .marking) })
 
-  pub judges-refused : {k : ℕ} → Refused k ≡ verdict-by (e .quiet) (eqb (e .marked .pr) 0 && eqb (e .marked .prNot) 0)
+  pub judges-refused : {copy : List ℕ} → copy ≡ counts → {k : ℕ} → Refused k ≡ verdict-told e r copy counts′
       → Judges (told (Refused k)) counts (effect net (counts-of counts) r)
   unfolding concluded
-  judges-refused {k} q =
-      subst (Judges (told (Refused k)) counts) (sym (effect-with (Refused k) q)) (record { answer = told-is (Refused k); counts = refl })
+  judges-refused same {k} q =
+      subst (Judges (told (Refused k)) counts) (sym (effect-with (Refused k) same q)) (record { answer = told-is (Refused k); counts = refl })

@@ -5,7 +5,7 @@ ghost use mathlib.Core.List.{List, [], _∷_};
 ghost use Prim.Native.Nat.{ℕ, _<_, _≤_};
 ghost use lib.Dec.{eqb, leb};
 ghost use lib.ListN.{getD};
-ghost use Rattle.model.specs.Refusals.{refuse, first-refusal, no-such-context, already-off, step-limit-met, tokens-left};
+ghost use Rattle.model.specs.Refusals.{refuse, first-refusal, no-such-context, already-off, step-limit-met, tokens-left, not-raised};
 ghost use Rattle.model.specs.Relations.{Net};
 ghost use Rattle.model.specs.Machine.{effect, initial-marking};
 ghost use Rattle.model.specs.declared.Verdict.the-variants.{Refused};
@@ -17,6 +17,7 @@ use crate::step::Stepped;
 use model::ALREADY_OFF;
 use model::Answer;
 use model::NO_SUCH_CONTEXT;
+use model::NOT_RAISED;
 use model::STEP_LIMIT_MET;
 use model::TOKENS_LEFT;
 use model::Verdict;
@@ -68,17 +69,22 @@ fn verdict_before(n: usize, counts: &[u8; 48], on: bool, c: usize) -> Verdict
     Verdict::Granted
 }
 
-// The verdict on a step that has ended: granted where it is quiet and no temporary place holds a token.
-fn verdict_on(end: Stepped) -> Verdict
-    ensures { λ r. ⌜ r ≡ first-refusal (refuse step-limit-met (not (end .quiet)) ∷ refuse tokens-left (not (eqb (end .marked .pr) 0 && eqb (end .marked .prNot) 0)) ∷ []) ⌝ }
+// The verdict on a step that has ended: granted where it is quiet, no temporary place holds a token, and an activation has raised
+// its context's count.
+fn verdict_on(end: Stepped, on: bool, before: u8, after: u8) -> Verdict
+    ensures { λ r. ⌜ r ≡ first-refusal (refuse step-limit-met (not (end .quiet)) ∷ refuse tokens-left (not (eqb (end .marked .pr) 0 && eqb (end .marked .prNot) 0)) ∷ refuse not-raised (on && leb after before) ∷ []) ⌝ }
 {
+    let marks = end.marked;
+    let clear = (marks.pr == 0) & (marks.prNot == 0);
+    let low = on & (after <= before);
     if !end.quiet {
         return Verdict::Refused(STEP_LIMIT_MET);
     }
-    let marks = end.marked;
-    let clear = (marks.pr == 0) & (marks.prNot == 0);
     if !clear {
         return Verdict::Refused(TOKENS_LEFT);
+    }
+    if low {
+        return Verdict::Refused(NOT_RAISED);
     }
     Verdict::Granted
 }
@@ -130,7 +136,9 @@ pub fn judge<'a>(
     );
     let firings = end.firings;
     let forced = end.forced;
-    let verdict = verdict_on(end);
+    let was = before[c];
+    let is = counts[c];
+    let verdict = verdict_on(end, on, was, is);
     match verdict {
         Verdict::Granted => Answer {
             verdict: Verdict::Granted,

@@ -5,16 +5,14 @@ use native.Mathlib.Nat.{add-zero, zero-add}
 use native.Mathlib.Numerals.{add-one}
 use native.Mathlib.Decide.{ℕ-discrete}
 use native.Mathlib.Omega.{arith}
-use mathlib.Core.Bool.{Bool, true, false, cond}
 use mathlib.Core.Path.{_≡_, refl, sym, ap, _∙_}
 use mathlib.Core.List.{List, [], _∷_, _++_, append-assoc, append-nil}
-use lib.Dec.{eqb}
 use lib.ListN.{length, length-append}
 use borrow.Author.Tests.{ne-eqb}
 use Rattle.model.specs.Sets.{concat-map, range, singleton, empty-set}
-use Rattle.model.specs.Relations.{Relation, causes, implies, requires}
-use Rattle.model.specs.Transitions.{Transition, drop-of, forced, extra, extra-transitions, context-transitions, transitions-of}
-use Rattle.model.proofs.Sizes.{length-concat-map, length-range}
+use Rattle.model.specs.Relations.{Relation, excludes, causes, implies, requires, suggests, last-kind}
+use Rattle.model.specs.Transitions.{drop-of, decline-of, forced, extra, extra-transitions, context-transitions, transitions-of}
+use Rattle.model.proofs.Sizes.{length-concat-map, length-range, length-extras}
 use Rattle.relations.specs.Reading.{relation, relation-at, first-relations, relations-in}
 use Rattle.relations.proofs.Reading.{first-more, length-first}
 
@@ -42,6 +40,10 @@ module _ (rels : List Relation) where
 
   -- the extra transition of each kind
   module _ (k a b : ℕ) where
+    pub extra-excluded : k ≡ excludes → extra rels (relation k a b) ≡ []
+    unfolding extra
+    extra-excluded e = rw e
+
     pub extra-drop : k ≡ causes → extra rels (relation k a b) ≡ drop-of b ∷ []
     unfolding extra
     extra-drop e = rw e
@@ -54,38 +56,29 @@ module _ (rels : List Relation) where
     unfolding extra
     extra-required e = rw e
 
-    pub extra-none : (k ≡ causes → ⊥) → (k ≡ implies → ⊥) → (k ≡ requires → ⊥) → extra rels (relation k a b) ≡ []
+    pub extra-declined : k ≡ suggests → extra rels (relation k a b) ≡ decline-of b ∷ []
     unfolding extra
-    extra-none p q r = rw (ne-eqb k causes p, ne-eqb k implies q, ne-eqb k requires r)
+    extra-declined e = rw e
 
-    pub extra-one : causes ≤ k → k ≤ requires → length (extra rels (relation k a b)) ≡ 1
-    extra-one l h = go (ℕ-discrete k causes) (ℕ-discrete k implies)
+    extra-none : (k ≡ causes → ⊥) → (k ≡ implies → ⊥) → (k ≡ requires → ⊥) → (k ≡ suggests → ⊥) → extra rels (relation k a b) ≡ []
+    unfolding extra
+    extra-none p q r s = rw (ne-eqb k causes p, ne-eqb k implies q, ne-eqb k requires r, ne-eqb k suggests s)
+
+    pub extra-one : causes ≤ k → k ≤ last-kind → length (extra rels (relation k a b)) ≡ 1
+    extra-one l h = go (ℕ-discrete k causes) (ℕ-discrete k implies) (ℕ-discrete k requires)
       where
-        go : Dec (k ≡ causes) → Dec (k ≡ implies) → length (extra rels (relation k a b)) ≡ 1
-        go (yes e) d = ap length (extra-drop e)
-        go (no p) (yes e) = ap length (extra-implied e)
-        go (no p) (no q) = ap length (extra-required (omega arith))
+        go : Dec (k ≡ causes) → Dec (k ≡ implies) → Dec (k ≡ requires) → length (extra rels (relation k a b)) ≡ 1
+        go (yes e) d d′ = ap length (extra-drop e)
+        go (no p) (yes e) d = ap length (extra-implied e)
+        go (no p) (no q) (yes e) = ap length (extra-required e)
+        go (no p) (no q) (no r) = ap length (extra-declined (omega arith))
 
-    pub extra-outside : (causes ≤ k → k ≤ requires → ⊥) → length (extra rels (relation k a b)) ≡ 0
-    extra-outside h = ap length (extra-none (λ e. h (omega arith) (omega arith)) (λ e. h (omega arith) (omega arith)) (λ e. h (omega arith) (omega arith)))
-
-  few-extra : (r : Relation) → length (extra rels r) ≤ 1
-  unfolding extra
-  few-extra r =
-      either (eqb (r .kind) causes) _ _ (omega arith)
-      (either (eqb (r .kind) implies) _ _ (omega arith) (either (eqb (r .kind) requires) _ _ (omega arith) (omega arith)))
-    where
-      either : (c : Bool) (x y : List Transition) → length x ≤ 1 → length y ≤ 1 → length (cond c x y) ≤ 1
-      either true x y p q = p
-      either false x y p q = q
-
-  few-extras : (xs : List Relation) → length (concat-map (extra rels) xs) ≤ length xs
-  few-extras [] = omega arith
-  few-extras (r ∷ xs) = omega (arith, few-extra r, few-extras xs, length-append (extra rels r) (concat-map (extra rels) xs))
+    pub extra-outside : (causes ≤ k → k ≤ last-kind → ⊥) → length (extra rels (relation k a b)) ≡ 0
+    extra-outside h = ap length (extra-none (λ e. h (omega arith) (omega arith)) (λ e. h (omega arith) (omega arith)) (λ e. h (omega arith) (omega arith)) (λ e. h (omega arith) (omega arith)))
 
   -- no more than one for each relation
   pub extras-few : (bs : List ℕ) (i : ℕ) → length (concat-map (extra rels) (first-relations i bs)) ≤ i
-  extras-few bs i = omega (arith, few-extras (first-relations i bs), length-first i bs)
+  extras-few bs i = omega (arith, length-extras rels (first-relations i bs), length-first i bs)
 
 -- "act(c)" and "deac(c)" of each context, and the extra ones
 pub transition-total : (n : ℕ) (rels : List Relation) → length (transitions-of n rels) ≡ 2 * n + length (concat-map (extra rels) rels)

@@ -7,11 +7,11 @@ use mathlib.Core.Path.{_≡_, refl, ap, ap₂, _∙_}
 use lib.Dec.{eqb}
 use borrow.Author.Tests.{eq-eqb}
 use Rattle.model.specs.Sets.{number, singleton, empty-set}
-use Rattle.model.specs.Relations.{Net, size, causes}
-use Rattle.model.specs.Transitions.{Transition, is-forced, act, deac, forced, drop-of}
+use Rattle.model.specs.Relations.{Net, size, causes, suggests}
+use Rattle.model.specs.Transitions.{Transition, is-forced, act, deac, forced, drop-of, decline-of}
 use Rattle.model.specs.Claims.{Fits}
 use Rattle.model.proofs.Ready.{related-ends}
-use Rattle.model.proofs.Shapes.{Shape, is-act, is-deac, is-drop, is-implied, is-required, shapes}
+use Rattle.model.proofs.Shapes.{Shape, is-act, is-deac, is-drop, is-implied, is-required, is-decline, shapes}
 use Rattle.model.proofs.Tests.{below-make, each-map}
 use Rattle.sets.proofs.Laws.{none-holds, below-fails}
 use Rattle.transitions.specs.Arcs.{Holds, unasked, Tells}
@@ -28,13 +28,15 @@ both : {p q r s : Bool} → p ≡ r → q ≡ s → (p && q) ≡ (r && s)
 both e f = ap₂ (λ (a b : Bool). a && b) e f
 
 told-of : (net : Net) → Fits net → size net ≤ 64 → (t : Transition) → Shape net t → (a : Arcs) → Holds a t → unasked a ≡ is-forced t
-unfolding unasked act deac forced drop-of
+unfolding unasked act deac forced drop-of decline-of
 told-of net fits few _ (is-act c h) a w = ap (λ (b : Bool). b && eqb (a .takesNot) 0) (some-word c (omega arith) (w .takesPr))
 told-of net fits few _ (is-deac c h) a w = both (no-word (w .takesPr)) (some-word c (omega arith) (w .takesNot))
 told-of net fits few _ (is-drop x b r) a w =
     both (no-word (w .takesPr)) (some-word b (omega (arith, related-ends net fits causes x b r .right)) (w .takesNot))
 told-of net fits few _ (is-implied x b r) a w = both (no-word (w .takesPr)) (no-word (w .takesNot))
 told-of net fits few _ (is-required x b r) a w = both (no-word (w .takesPr)) (no-word (w .takesNot))
+told-of net fits few _ (is-decline x b r) a w =
+    ap (λ (e : Bool). e && eqb (a .takesNot) 0) (some-word b (omega (arith, related-ends net fits suggests x b r .right)) (w .takesPr))
 
 pub forced-told : (net : Net) → Fits net → size net ≤ 64 → Tells net
 forced-told net fits few = each-map (told-of net fits few) (shapes net)

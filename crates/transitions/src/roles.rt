@@ -4,9 +4,14 @@ ghost use mathlib.Core.List.{List};
 ghost use Prim.Native.Nat.{_<_};
 ghost use Rattle.model.specs.Sets.{Set, number, singleton};
 ghost use Rattle.model.specs.Relations.{Relation, related, excluded, requires};
-ghost use Rattle.model.specs.Transitions.{asks-on, asks-off, act, deac, forced, drop-of};
+ghost use Rattle.model.specs.Transitions.{asks-on, asks-off, act, deac, forced, drop-of, decline-of};
 ghost use Rattle.transitions.specs.Arcs.{Holds, unasked};
 use crate::Arcs;
+
+// The two priorities: what swallows a token waits until nothing else can fire.
+const URGENT: u8 = 2;
+
+const LATE: u8 = 1;
 
 // Whether a transition is a forced one: of all forms it alone takes from no temporary place.
 pub fn is_forced(a: Arcs) -> bool
@@ -21,7 +26,7 @@ pub fn act(c: usize, needed: u64, asked: u64, barred: u64) -> Arcs
     ensures { λ r. ⌜ ((rels : List Relation) → needed ≡ number 64 (related rels requires c) → asked ≡ number 64 (asks-on rels c) → barred ≡ number 64 (excluded rels c) → Holds r (act rels c)) ⌝ }
 {
     Arcs {
-        priority: 2,
+        priority: URGENT,
         takesContext: needed,
         takesPr: sets::singleton(c),
         takesNot: 0,
@@ -40,7 +45,7 @@ pub fn deac(c: usize, asked: u64) -> Arcs
 {
     let own = sets::singleton(c);
     Arcs {
-        priority: 2,
+        priority: URGENT,
         takesContext: own,
         takesPr: 0,
         takesNot: own,
@@ -59,7 +64,7 @@ pub fn drop_of(b: usize) -> Arcs
 {
     let it = sets::singleton(b);
     Arcs {
-        priority: 1,
+        priority: LATE,
         takesContext: 0,
         takesPr: 0,
         takesNot: it,
@@ -71,13 +76,31 @@ pub fn drop_of(b: usize) -> Arcs
     }
 }
 
+// The decline of "a suggests b".
+pub fn decline_of(b: usize) -> Arcs
+    requires { ⌜ b < 64 ⌝ }
+    ensures { λ r. ⌜ Holds r (decline-of b) ⌝ }
+{
+    Arcs {
+        priority: LATE,
+        takesContext: 0,
+        takesPr: sets::singleton(b),
+        takesNot: 0,
+        givesContext: 0,
+        givesPr: 0,
+        givesNot: 0,
+        inhibContext: 0,
+        inhibPr: 0,
+    }
+}
+
 // The forced transition of "a implies b" and "a requires b", from what a asks off and the contexts whose Pr inhibits it.
 pub fn forced(a: usize, b: usize, asked: u64, pr: u64) -> Arcs
     requires { ⌜ (a < 64) × (b < 64) ⌝ }
     ensures { λ r. ⌜ ((rels : List Relation) (f : Set) → asked ≡ number 64 (asks-off rels a) → pr ≡ number 64 f → Holds r (forced rels a (singleton b) f)) ⌝ }
 {
     Arcs {
-        priority: 2,
+        priority: URGENT,
         takesContext: sets::singleton(a),
         takesPr: 0,
         takesNot: 0,

@@ -3,7 +3,7 @@ use native.Mathlib.Omega.{arith}
 use denote.Ref.{now}
 use Rattle.net.specs.Tables.{Columns, columns}
 use Rattle.net.proofs.Growing.{grown-none, grown-one}
-use Rattle.transitions.proofs.Counting.{extra-none}
+use Rattle.transitions.proofs.Counting.{extra-excluded}
 use borrow.Author.Needs.{needs}
 use Rattle.net.proofs.compose.extra.Statement.{statement}
 use Rattle.net.proofs.compose.extra.Tie as tie
@@ -11,8 +11,7 @@ use Rattle.net.proofs.compose.extra.Tie as tie
 returns : tie.Need-returns
 returns c rels has =
     let a = c .before .args in
-    let e = c .match .keys1 in
-    rw (extra-none rels (a .k) (a .a) (a .b) (λ f. omega (arith, e, f)) (λ f. omega (arith, e, f)) (λ f. omega (arith, e, f))) (grown-none _ (a .t))
+    rw (extra-excluded rels (a .k) (a .a) (a .b) (c .match .keys1)) (grown-none _ (a .t))
 
 extra-of-requires : tie.Need-extra-of-requires
 extra-of-requires c κs =

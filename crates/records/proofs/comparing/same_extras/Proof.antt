@@ -6,7 +6,7 @@ use mathlib.Core.List.{_∷_}
 use borrow.Author.Tests.{not-true, not-false}
 use denote.Ref.{now}
 use lib.ListN.{drop}
-use Rattle.model.specs.Relations.{Relation}
+use Rattle.model.specs.Relations.{Relation, last-kind}
 use Rattle.model.proofs.Ready.{Fitting}
 use Rattle.relations.specs.Reading.{relation, relation-at, relations-in}
 use Rattle.relations.proofs.Reading.{same-parts, fits-at, length-relations-in}
@@ -51,7 +51,7 @@ fits c =
 kind-least : (c : tie.After-target-at Inv-loop μ-loop) → 1 ≤ c .before .before .kind-at .result
 kind-least c = omega (arith, fits (c .before .before .before) .least, c .before .before .kind-at .ensures)
 
-kind-most : (c : tie.After-target-at Inv-loop μ-loop) → c .before .before .kind-at .result ≤ 4
+kind-most : (c : tie.After-target-at Inv-loop μ-loop) → c .before .before .kind-at .result ≤ last-kind
 kind-most c = omega (arith, fits (c .before .before .before) .most, c .before .before .kind-at .ensures)
 
 -- the relation that was read is the first of those that are left

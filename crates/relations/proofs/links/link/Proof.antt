@@ -22,15 +22,15 @@ returns c rels has =
     let s = m .before in
     let a = s .args in
     linked-exclusion rels (a .k) (a .a) (a .b) (m .match .keys1)
-    (joined (add (a .k) (a .a) (a .b) (ends rels)) (a .k) (a .b) (a .a) (c .mark2 .ensures) (omega (arith, s .pre .0)) (s .pre .2)
-    (joined (ends rels) (a .k) (a .a) (a .b) (first .mark .ensures) (omega (arith, s .pre .0)) (s .pre .1) has))
+    (joined (add (a .k) (a .a) (a .b) (ends rels)) (a .k) (a .b) (a .a) (c .mark2 .ensures) (s .pre .0) (s .pre .1) (s .pre .3)
+    (joined (ends rels) (a .k) (a .a) (a .b) (first .mark .ensures) (s .pre .0) (s .pre .1) (s .pre .2) has))
 
 returns-2 : tie.Need-returns-2
 returns-2 c rels has =
     let m = c .before .before in
     let s = m .before in
     let a = s .args in
-    linked-plain rels (a .k) (a .a) (a .b) (m .match .rest .1) (joined (ends rels) (a .k) (a .a) (a .b) (c .mark3 .ensures) (omega (arith, s .pre .0)) (s .pre .1) has)
+    linked-plain rels (a .k) (a .a) (a .b) (m .match .rest .1) (joined (ends rels) (a .k) (a .a) (a .b) (c .mark3 .ensures) (s .pre .0) (s .pre .1) (s .pre .2) has)
 
 pub link-spec : {M : Type 1} → statement M
 link-spec = tie.close (tie.spec mark-requires mark-requires-2 mark-requires-3 returns returns-2)

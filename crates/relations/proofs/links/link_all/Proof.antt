@@ -6,7 +6,7 @@ use native.Mathlib.Omega.{arith}
 use denote.Ref.{now}
 use lib.ListN.{length}
 use Rattle.model.specs.Sets.{any}
-use Rattle.model.specs.Relations.{Relation, same, repeats, repeats-after}
+use Rattle.model.specs.Relations.{Relation, excludes, last-kind, same, repeats, repeats-after}
 use Rattle.model.proofs.Ready.{Fitting}
 use Rattle.relations.specs.Reading.{relation-at, first-relations}
 use Rattle.relations.specs.Links.{Linked}
@@ -45,12 +45,12 @@ fits c =
     fits-at (start .pre .0 .n) (now (start .args .relations)) (start .pre .0 .fits) (c .before .loop .i) (omega arith)
 
 -- so its kind and its ends are within the array
-within : (to : tie.After-target-at Inv-loop μ-loop) → (to .before .before .kind-at .result ≤ 4) × (to .before .source-at .result < 48) × (to .target-at .result < 48)
+within : (to : tie.After-target-at Inv-loop μ-loop) → (excludes ≤ to .before .before .kind-at .result) × (to .before .before .kind-at .result ≤ last-kind) × (to .before .source-at .result < 48) × (to .target-at .result < 48)
 within to =
     let in-loop = to .before .before .before in
     let f = fits in-loop in
     let few = in-loop .before .before .before .pre .0 .few in
-    (omega (arith, f .most, to .before .before .kind-at .ensures), omega (arith, f .ends, few, to .before .source-at .ensures), omega (arith, f .ends, few, to .target-at .ensures))
+    (omega (arith, f .least, to .before .before .kind-at .ensures), omega (arith, f .most, to .before .before .kind-at .ensures), omega (arith, f .ends, few, to .before .source-at .ensures), omega (arith, f .ends, few, to .target-at .ensures))
 
 linked-requires : tie.Need-linked-requires Inv-loop μ-loop
 linked-requires c κs = within (c .before)

@@ -20,7 +20,7 @@ returns c rels has =
     let s = c .before .before in
     let a = s .args in
     c .member .ensures
-    ∙ contained 64 (ends rels (a .k) (a .a)) (c .before .word .ensures ∙ grid-word (ends rels) has (a .k) (a .a) (omega (arith, s .pre .0)) (s .pre .1)) (a .b) (omega (arith, s .pre .2))
+    ∙ contained 64 (ends rels (a .k) (a .a)) (c .before .word .ensures ∙ grid-word (ends rels) has (a .k) (a .a) (s .pre .0) (s .pre .1) (s .pre .2)) (a .b) (omega (arith, s .pre .3))
     ∙ same-linked (a .k) (a .a) (a .b) rels
 
 pub linked-spec : {M : Type 1} → statement M

@@ -1,4 +1,4 @@
--- The two tests before the step are the model's. The step begins in the marking of the request, and the verdict's two tests are the
+-- The two tests before the step are the model's. The step begins in the marking of the request, and the three tests of its end are the
 -- model's; a refusal puts the counts back.
 use Prim.Native.Nat.{ℕ, _<_}
 use mathlib.Core.List.{List}
@@ -91,6 +91,18 @@ ready-to-run k =
 run-from-requires : tie.Need-run-from-requires
 run-from-requires c κs = ready-to-run (c .before .before)
 
+-- the context whose count is read before the step and after it
+within : (ru : tie.After-run-from) → ru .before .before .before .before .before .before .before .before .before .before .before .before .before .args .c < 48
+within ru =
+    let l = ru .before .before .before .before .before .before .before .before .before in
+    omega (arith, inside l, l .before .before .before .before .pre .0)
+
+array-read-was : tie.Need-array-read-was
+array-read-was c = within c
+
+element-copy-out-is : tie.Need-element-copy-out-is
+element-copy-out-is c = within c
+
 verdict-on-requires : tie.Need-verdict-on-requires
 verdict-on-requires c κs = search needs
 
@@ -106,24 +118,24 @@ refused-requires-2 c κs = search needs
 returns-2 : tie.Need-returns-2
 returns-2 c net d =
     let v = c .before .before in
-    let ru = v .before in
+    let ru = v .before .before in
     let tk = ru .before .before .before .before .before .before in
     let l = tk .before .before .before in
     let b = l .before .before .before .before in
-    judges-granted (request b) (granted l) d (tk .token .ensures (b .args .counts .now)) (ru .run-from .ensures) (sym (c .enum-told2 .given .1) ∙ v .verdict-on .ensures)
+    judges-granted (request b) (granted l) d (tk .token .ensures (b .args .counts .now)) (ru .run-from .ensures) (tk .before .copied .ensures) (sym (c .enum-told2 .given .1) ∙ v .verdict-on .ensures)
 
 returns-3 : tie.Need-returns-3
 returns-3 c net d =
     let w = c .before .before in
     let v = w .before .before in
-    let ru = v .before in
+    let ru = v .before .before in
     let tk = ru .before .before .before .before .before .before in
     let l = tk .before .before .before in
     let b = l .before .before .before .before in
     let e = effect net (counts-of (b .args .counts .now)) (request b) in
     subst (λ (x : List ℕ). Judges (c .refused2 .result) x e) (sym (tk .before .copied .ensures))
     (subst (λ (x : Answer). Judges x (b .args .counts .now) e) (sym (c .refused2 .ensures))
-    (judges-refused (request b) (granted l) d (tk .token .ensures (b .args .counts .now)) (ru .run-from .ensures) (sym (w .verdict .given .1) ∙ v .verdict-on .ensures)))
+    (judges-refused (request b) (granted l) d (tk .token .ensures (b .args .counts .now)) (ru .run-from .ensures) (tk .before .copied .ensures) (sym (w .verdict .given .1) ∙ v .verdict-on .ensures)))
 
 pub judge-spec : {M : Type 1} → statement M
 judge-spec =
@@ -139,6 +151,8 @@ judge-spec =
     at-rest-requires
     asking-requires
     run-from-requires
+    array-read-was
+    element-copy-out-is
     verdict-on-requires
     enum-told-2
     enum-known-verdict

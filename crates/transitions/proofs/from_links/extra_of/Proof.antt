@@ -4,18 +4,19 @@ use mathlib.Core.Path.{_≡_}
 use native.Mathlib.Omega.{arith}
 use Rattle.sets.proofs.Laws.{zero-holds}
 use Rattle.model.specs.Sets.{singleton, empty-set}
-use Rattle.model.specs.Transitions.{drop-of, forced}
-use Rattle.transitions.proofs.Counting.{extra-drop, extra-implied, extra-required}
+use Rattle.model.specs.Relations.{causes, implies, requires, suggests, last-kind}
+use Rattle.model.specs.Transitions.{drop-of, decline-of, forced}
+use Rattle.transitions.proofs.Counting.{extra-drop, extra-implied, extra-required, extra-declined}
 use borrow.Author.Needs.{needs}
 use Rattle.transitions.proofs.from_links.extra_of.Statement.{statement}
 use Rattle.transitions.proofs.from_links.extra_of.Tie as tie
 
 -- the kind that is left
-four : (k : ℕ) → 2 ≤ k → k ≤ 4 → (k ≡ 2 → ⊥) → (k ≡ 3 → ⊥) → k ≡ 4
-four k h l p q = omega arith
+last : (k : ℕ) → causes ≤ k → k ≤ last-kind → (k ≡ causes → ⊥) → (k ≡ implies → ⊥) → (k ≡ requires → ⊥) → k ≡ suggests
+last k h l p q r = omega arith
 
-asked-of-requires : tie.Need-asked-of-requires
-asked-of-requires c κs = search needs
+asked-off-requires : tie.Need-asked-off-requires
+asked-off-requires c κs = search needs
 
 drop-of-requires : tie.Need-drop-of-requires
 drop-of-requires c κs = search needs
@@ -28,6 +29,9 @@ forced-requires c κs = search needs
 
 forced-requires-2 : tie.Need-forced-requires-2
 forced-requires-2 c κs = search needs
+
+decline-of-requires : tie.Need-decline-of-requires
+decline-of-requires c κs = search needs
 
 returns : tie.Need-returns
 returns c rels has =
@@ -43,30 +47,42 @@ returns-2 c rels has =
     record {
       one = forced rels (a .a) (singleton (a .b)) (singleton (a .b));
       alone = extra-implied rels (a .k) (a .a) (a .b) (m .match .keys2);
-      holds = c .forced .ensures rels (singleton (a .b)) (asked .asked-of .ensures rels has) (c .before .singleton .ensures);
+      holds = c .forced .ensures rels (singleton (a .b)) (asked .asked-off .ensures rels has) (c .before .singleton .ensures);
     }
 
 returns-3 : tie.Need-returns-3
 returns-3 c rels has =
     let m = c .before in
     let asked = m .before in
-    let s = asked .before in
-    let a = s .args in
+    let a = asked .before .args in
     record {
       one = forced rels (a .a) (singleton (a .b)) empty-set;
-      alone = extra-required rels (a .k) (a .a) (a .b) (four (a .k) (s .pre .0) (s .pre .1) (m .match .rest .0 .1) (m .match .rest .1));
-      holds = c .forced2 .ensures rels empty-set (asked .asked-of .ensures rels has) (zero-holds 64);
+      alone = extra-required rels (a .k) (a .a) (a .b) (m .match .keys3);
+      holds = c .forced2 .ensures rels empty-set (asked .asked-off .ensures rels has) (zero-holds 64);
+    }
+
+returns-4 : tie.Need-returns-4
+returns-4 c rels has =
+    let m = c .before in
+    let s = m .before .before in
+    let a = s .args in
+    record {
+      one = decline-of (a .b);
+      alone = extra-declined rels (a .k) (a .a) (a .b) (last (a .k) (s .pre .0) (s .pre .1) (m .match .rest .0 .0 .1) (m .match .rest .0 .1) (m .match .rest .1));
+      holds = c .decline-of .ensures;
     }
 
 pub extra-of-spec : {M : Type 1} → statement M
 extra-of-spec =
     tie.close
     (tie.spec
-    asked-of-requires
+    asked-off-requires
     drop-of-requires
     singleton-requires
     forced-requires
     forced-requires-2
+    decline-of-requires
     returns
     returns-2
-    returns-3)
+    returns-3
+    returns-4)

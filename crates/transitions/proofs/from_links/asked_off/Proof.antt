@@ -7,8 +7,8 @@ use Rattle.model.specs.Transitions.{asks-off}
 use Rattle.relations.specs.Links.{ends}
 use Rattle.relations.proofs.Linking.{grid-word}
 use borrow.Author.Needs.{needs}
-use Rattle.transitions.proofs.from_links.asked_of.Statement.{statement}
-use Rattle.transitions.proofs.from_links.asked_of.Tie as tie
+use Rattle.transitions.proofs.from_links.asked_off.Statement.{statement}
+use Rattle.transitions.proofs.from_links.asked_off.Tie as tie
 
 word-requires : tie.Need-word-requires
 word-requires c κs = search needs
@@ -26,8 +26,8 @@ returns c rels has =
     let one = two .before in
     let s = one .before in
     let a = s .args .a in
-    joined-holds 64 (related rels causes a) (related rels implies a) (one .word .ensures ∙ grid-word (ends rels) has causes a (omega arith) (s .pre)) (two .word2 .ensures ∙ grid-word (ends rels) has implies a (omega arith) (s .pre))
+    joined-holds 64 (related rels causes a) (related rels implies a) (one .word .ensures ∙ grid-word (ends rels) has causes a (omega arith) (omega arith) (s .pre)) (two .word2 .ensures ∙ grid-word (ends rels) has implies a (omega arith) (omega arith) (s .pre))
     (c .union .ensures)
 
-pub asked-of-spec : {M : Type 1} → statement M
-asked-of-spec = tie.close (tie.spec word-requires word-requires-2 union-requires returns)
+pub asked-off-spec : {M : Type 1} → statement M
+asked-off-spec = tie.close (tie.spec word-requires word-requires-2 union-requires returns)
