@@ -44,10 +44,10 @@
 #define BOARD_WRONG_RECORDS 9     /* the records are not those of the net that the relations compose */
 #define BOARD_NO_SUCH_CONTEXT 10  /* there is no such context */
 #define BOARD_STEP_LIMIT_MET 11   /* 4,096 transitions fired and one could still fire */
-#define BOARD_TOKENS_LEFT 12      /* something that was asked for could not be done */
+#define BOARD_TOKENS_LEFT 12      /* something that was asked for could not be done and is left */
 #define BOARD_NOTHING_OPEN 13     /* nothing is open to be undone */
 #define BOARD_ALREADY_OFF 14      /* the context to be deactivated is not active; tested straight after 10 */
-#define BOARD_NOT_RAISED 15       /* the context to be activated is no higher than before: a suggestion let go what was asked for; after 12 */
+#define BOARD_NOT_RAISED 15       /* the context to be activated is no higher than before: a suggestion swallowed what was asked for; tested after 12 */
 
 /* Lengths in bytes. An image has n + 3r + 49t + 8, where t is 2n plus the relations that are no exclusions; a list has 2 + n + 3r. */
 #define BOARD_SHORTEST_IMAGE 107 /* n = 1, r = 0 */

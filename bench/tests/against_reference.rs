@@ -396,9 +396,9 @@ fn suggestions_agree() {
             let (answers, counts) = answers(&net, &calls[..=i]);
             let (verdict, firings, forced) = answers[i];
             let mut listed = format!("{verdict} {firings} {forced}");
-            counts
-                .iter()
-                .for_each(|count| listed += &format!(" {count}"));
+            for count in &counts {
+                listed += &format!(" {count}");
+            }
             assert_eq!(listed, *line, "{}", scenario.name);
         }
     }

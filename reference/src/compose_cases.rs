@@ -95,7 +95,7 @@ fn large_nets(cases: &mut Cases) {
     cases.net(&rising, &[], AMPLE);
 }
 
-/// All kinds between contexts c and 47 - c.
+/// All kinds between contexts c and 47 - c, as far as 96 relations go.
 fn all_kinds_on_pairs() -> Vec<[u8; 3]> {
     (0..96).map(|i| [1 + i % 5, i / 5, 47 - i / 5]).collect()
 }
@@ -201,7 +201,6 @@ fn relation_edges(cases: &mut Cases) {
     cases.net(&[7], &[[CAUSES, 0, 0]], AMPLE);
 }
 
-/// Each two of 3, 5, 6, 7 and 8 at once, then more of them.
 const GOOD: [u8; 3] = [IMPLIES, 0, 1];
 const OTHER: [u8; 3] = [CAUSES, 1, 2];
 const BAD_KIND: [u8; 3] = [6, 0, 1];
@@ -219,6 +218,7 @@ fn torn(relations: &[[u8; 3]]) -> Vec<u8> {
     [&relations.concat()[..], &[3]].concat()
 }
 
+/// Each two of 3, 5, 6, 7 and 8 at once, then more of them.
 fn several_refusals(cases: &mut Cases) {
     sizes_and_others(cases);
     for bad in [BAD_KIND, BAD_END, BAD_SAME_ENDS] {

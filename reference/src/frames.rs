@@ -267,7 +267,7 @@ fn damaged_images(frames: &mut Vec<Frame>) {
         vec![damage(0, 2)],
         vec![damage(2, 1)],
         vec![damage(5, 0)],
-        // The last kind there is leaves the records wrong; others are none.
+        // Kind 5 is one, so the records are wrong; 0, 6 and 255 are none.
         vec![damage(6, 5)],
         vec![damage(6, 0)],
         vec![damage(6, 6)],

@@ -259,7 +259,8 @@ impl Machine {
         context: usize,
         wish: Wish,
     ) -> Option<u8> {
-        // A suggestion may have swallowed what would have kept it on.
+        // A suggestion may have swallowed the wish itself, or what would have
+        // kept the context on.
         let is_raised = marking.counts()[context] > self.counts[context];
         if !step.quiet {
             Some(refusal::STEP_LIMIT)

@@ -9,7 +9,7 @@ pub const RELATION_LEN: usize = 3;
 
 /// Activations, deactivations and forced deactivations go first.
 pub const PRIORITY_HIGH: u8 = 2;
-/// A drop or a swallowing only takes what nothing of high priority wants.
+/// A drop or a decline only takes what nothing of high priority wants.
 pub const PRIORITY_LOW: u8 = 1;
 
 #[derive(Clone, Copy, PartialEq, Eq, Debug)]
@@ -266,7 +266,7 @@ fn extra(relation: &Relation, relations: &[Relation]) -> Option<Transition> {
             Some(forced_deactivation(a, inhibitors, relations))
         }
         Kind::Requirement => Some(forced_deactivation(a, b_place, relations)),
-        Kind::Suggestion => Some(swallowing_of(b)),
+        Kind::Suggestion => Some(decline_of(b)),
     }
 }
 
@@ -291,7 +291,7 @@ fn drop_of(b: usize) -> Transition {
 
 /// Takes away a wish to activate `b` that nothing could serve, whoever it
 /// came from.
-fn swallowing_of(b: usize) -> Transition {
+fn decline_of(b: usize) -> Transition {
     let mut swallowed = Transition::without_arcs(PRIORITY_LOW);
     swallowed.takes.pr = only(b);
     swallowed

@@ -30,8 +30,8 @@ pub fn scenarios() -> Vec<Scenario> {
     limit_met(&mut list);
     between_the_same_two(&mut list);
     target_stays_on(&mut list);
-    order_of_swallowing(&mut list);
-    drop_and_swallowing(&mut list);
+    order_of_declines(&mut list);
+    drop_and_decline(&mut list);
     falls_below(&mut list);
     rings(&mut list);
     list
@@ -302,9 +302,9 @@ fn target_stays_on(list: &mut Vec<Scenario>) {
 }
 
 /// "+4" brings 0, which brings Pr(1) and Pr(3): 2 keeps 1 off, and 3 is full.
-/// Behind the swallowing of Pr(1) comes the forced transition, though its
-/// number is higher than that of the other swallowing; it asks 3 off.
-fn order_of_swallowing(list: &mut Vec<Scenario>) {
+/// Behind the decline of Pr(1) comes the forced transition, though its
+/// number is higher than that of the other decline; it asks 3 off.
+fn order_of_declines(list: &mut Vec<Scenario>) {
     let swallow_1 = [SUGGESTS, 2, 1];
     let swallow_3 = [SUGGESTS, 2, 3];
     let others = [
@@ -333,12 +333,12 @@ fn order_of_swallowing(list: &mut Vec<Scenario>) {
 
 /// Both are of low priority, so their numbers decide. act(0), act(1), Pr(2)
 /// swallowed twice, 0 forced off, act(0), deac(1), act(1) are followed by the
-/// same from the first swallowing on, over and over. Each deac(1) leaves a
-/// Pr(¬2): a drop goes before the swallowings if its number is lower, and
+/// same from the first decline on, over and over. Each deac(1) leaves a
+/// Pr(¬2): a drop goes before the declines if its number is lower, and
 /// otherwise none comes.
-fn drop_and_swallowing(list: &mut Vec<Scenario>) {
+fn drop_and_decline(list: &mut Vec<Scenario>) {
     let dropping = [CAUSES, 1, 2];
-    let swallowing = [SUGGESTS, 1, 2];
+    let decline = [SUGGESTS, 1, 2];
     let others = [
         [SUGGESTS, 1, 0],
         [CAUSES, 0, 1],
@@ -349,14 +349,14 @@ fn drop_and_swallowing(list: &mut Vec<Scenario>) {
         list,
         "the drop last",
         &[1; 3],
-        &[&[swallowing, dropping][..], &others].concat(),
+        &[&[decline, dropping][..], &others].concat(),
         &[("+0", "11 4096 682 0 0 0")],
     );
     add(
         list,
         "the drop first",
         &[1; 3],
-        &[&[dropping, swallowing][..], &others].concat(),
+        &[&[dropping, decline][..], &others].concat(),
         &[("+0", "11 4096 585 0 0 0")],
     );
 }

@@ -53,7 +53,8 @@ fn a_refusal_with_15_counts_and_opens_nothing() {
     assert_eq!(machine.totals(), totals);
 }
 
-/// Every record of a net in which 0 suggests 1 and has relations besides.
+/// What 0, which suggests 1 and has relations besides, asks on and off, and
+/// what its suggestion adds.
 #[test]
 fn a_suggestion_asks_on_and_never_off() {
     let relations = [
@@ -67,9 +68,9 @@ fn a_suggestion_asks_on_and_never_off() {
     assert_eq!(transitions.len(), 11);
     let [act, deac] = [transitions[0], transitions[1]];
     assert_eq!((act.gives.pr, deac.gives.pr_not), (2 + 8, 8));
-    let [swallowing, forced] = [transitions[8], transitions[9]];
+    let [decline, forced] = [transitions[8], transitions[9]];
     assert_eq!(forced.gives.pr_not, 8);
-    assert!(forced.forced && !swallowing.forced);
+    assert!(forced.forced && !decline.forced);
     let mut expected = Transition {
         priority: 1,
         forced: false,
@@ -78,7 +79,7 @@ fn a_suggestion_asks_on_and_never_off() {
         inhibited_by: Default::default(),
     };
     expected.takes.pr = 2;
-    assert_eq!(swallowing, expected);
+    assert_eq!(decline, expected);
 }
 
 #[test]

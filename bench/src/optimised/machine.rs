@@ -233,13 +233,15 @@ impl<'net, const SPARSE: bool> Machine<'net, SPARSE> {
         (GRANTED, 0)
     }
 
-    /// Runs the step, and commits it where all was done that was asked for.
+    /// Runs the step, and commits it where nothing is left asked for and an
+    /// activation has raised its context.
     fn request(&mut self, context: usize, on: bool) -> Answer {
         let before = self.marking.board;
         let (fired, quiet) = self.step();
         let marks = self.marking.marks();
         let clear = marks.pr | marks.pr_not == 0;
-        // A suggestion may have swallowed what the context needs to stay on.
+        // A suggestion may have swallowed the wish, or what the context needs
+        // to stay on.
         let low = on && self.marking.board.counts[context] <= before.counts[context];
         if quiet && clear && !low {
             self.open.push(&before);

@@ -1,27 +1,27 @@
 -- A sound engine read as the arrays that its calls run on, and the net that is composed from it.
 -- Assumes nothing.
-use Prim.Native.Nat.{ℕ, _+_, _*_, _<_, _≤_}
+use Prim.Native.Nat.{ℕ, _*_, _<_, _≤_}
 use native.Mathlib.Omega.{arith}
 use mathlib.Core.Path.{_≡_, refl, sym, subst, ap, ap₂, _∙_}
 use mathlib.Core.Bool.{Bool, true, false, cond}
-use mathlib.Core.List.{List, []}
+use mathlib.Core.List.{List}
 use lib.ListN.{length, getD, take}
 use lib.Seq.{length-take-le, getD-take}
 use Rattle.model.specs.Sets.{any}
 use Rattle.model.specs.Refusals.{is-granted}
-use Rattle.model.specs.Relations.{Net, Relation, size, relation-count, capacity, misfit, empty-net}
-use Rattle.model.specs.Transitions.{Transition, transitions, transitions-of}
-use Rattle.model.specs.Machine.{Request, Board, State, call-of, effect, commit, respond, tally-after, make-request, without-firings}
-use Rattle.model.specs.Image.{edition-1, read-relations, transition-count}
+use Rattle.model.specs.Relations.{size, relation-count, capacity, misfit, empty-net}
+use Rattle.model.specs.Transitions.{transitions-of}
+use Rattle.model.specs.Machine.{Request, State, call-of, effect, commit, respond, tally-after, make-request, without-firings}
+use Rattle.model.specs.Image.{edition-1}
 use Rattle.model.specs.Claims.{Fits}
 use Rattle.model.specs.declared.Answer.{Answer}
 use Rattle.model.specs.declared.Call.{Call}
-use Rattle.model.specs.declared.Verdict.the-variants.{Granted, Refused}
+use Rattle.model.specs.declared.Verdict.the-variants.{Refused}
 use Rattle.model.proofs.Sizes.{length-transitions}
 use Rattle.model.proofs.Accepts.{length-read}
 use Rattle.relations.specs.Reading.{relations-in, first-relations, Composable}
 use Rattle.net.specs.Tables.{Columns, Table, Filled}
-use Rattle.state.specs.View.{Replies, Shows, state, sound, sound-in, net-in, net-of, counts-of, opened-of, tally-in, tally-of}
+use Rattle.state.specs.View.{Replies, Shows, state, sound, net-in, net-of, counts-of, opened-of, tally-in, tally-of}
 use Rattle.state.specs.declared.Engine.{Engine}
 use Rattle.state.specs.declared.Reply.{Reply}
 use Rattle.slots.specs.declared.Ring.{Ring}
@@ -31,7 +31,7 @@ use Rattle.model.proofs.Replay.{reply-call}
 use Rattle.state.proofs.States.{Limits, sound-limits, sound-same, board-sound, replies}
 use Rattle.state.proofs.Triples.{relations-part}
 use Rattle.steps.specs.Steps.{Describes}
-use Rattle.serving.specs.Serving.{Slots, Running, Runs, state-at, Serves}
+use Rattle.serving.specs.Serving.{Slots, Running, state-at, Serves}
 use Rattle.serving.specs.declared.serving.Served.{Served}
 use Rattle.engine.specs.Leaving.{moved}
 

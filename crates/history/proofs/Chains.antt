@@ -3,14 +3,14 @@
 -- Assumes nothing.
 use Prim.Native.Nat.{ℕ}
 use mathlib.Core.Path.{_≡_, refl, sym, subst, ap, ap₂, _∙_}
-use mathlib.Core.List.{List, [], _∷_, map}
-use Rattle.model.specs.Machine.{Event, Request, Counts, State, Tally, fresh, after, log, respond, board-at, zeros}
+use mathlib.Core.List.{List, _∷_, map}
+use Rattle.model.specs.Machine.{Event, State, fresh, after, log, respond}
 use Rattle.model.specs.Image.{edition-1}
-use Rattle.model.specs.Claims.{Rules, Demand3}
+use Rattle.model.specs.Claims.{Rules}
 use Rattle.model.specs.declared.Call.{Call}
 use Rattle.model.specs.declared.Answer.{Answer}
 use Rattle.model.proofs.Editions.{demand3-loaded}
-use Rattle.state.specs.View.{Replies, Shows, state, counts-of, tally-of}
+use Rattle.state.specs.View.{Shows, state, counts-of}
 use Rattle.state.specs.declared.Engine.{Engine}
 use Rattle.history.specs.Chains.{Chain, none-left, then, loaded, Kept}
 

@@ -1,15 +1,12 @@
 -- A list of calls over lent arrays, from a fresh net: each call leads on as the machine does.
 -- Assumes nothing.
-use Prim.Native.Nat.{ℕ, zero, suc, _+_, _*_, _/_, _%_, _<_, _≤_}
+use Prim.Native.Nat.{ℕ, zero, suc, _+_, _*_, _/_, _<_, _≤_}
 use native.Mathlib.Numerals.{add-one}
 use native.Mathlib.Omega.{arith}
-use mathlib.Core.Path.{_≡_, refl, sym, subst, ap, ap₂, _∙_}
-use mathlib.Core.Bool.{Bool, true, false, _||_, not}
+use mathlib.Core.Path.{_≡_, refl, sym, subst, ap, _∙_}
 use mathlib.Core.List.{List, [], _∷_, _++_, map}
-use lib.Dec.{ltb, eqb}
-use lib.ListN.{length, getD, take, drop, replicate, length-map}
-use lib.Seq.{take-all, take-suc, length-take-le, drop-length}
-use borrow.Author.Tests.{ne-eqb, eq-eqb, lt-ltb, le-ltb}
+use lib.ListN.{length, getD, take, replicate, length-map}
+use lib.Seq.{take-all, take-suc, length-take-le}
 use Rattle.model.specs.Sets.{concat-map}
 use Rattle.model.specs.Relations.{Net}
 use Rattle.model.specs.Machine.{Event, State, respond, fresh, board-at, after, log, event}
@@ -23,11 +20,12 @@ use Rattle.slots.specs.View.{entries}
 use Rattle.slots.specs.declared.Ring.{Ring}
 use Rattle.state.specs.declared.Tally.{Tally}
 use Rattle.state.proofs.States.{zeros-in}
-use Rattle.serving.specs.Serving.{state-at}
+use Rattle.serving.specs.Serving.{Serves, state-at}
 use Rattle.serving.specs.declared.serving.Served.{Served}
 use Rattle.records.specs.Bytes.{put}
 use Rattle.records.proofs.Puts.{put-next, put-none, concat-map-append}
-use Rattle.history.specs.Reports.{call-in, calls-in, unknown-call, no-calls, answer-bytes, answers-of}
+use Rattle.encoding.specs.Encoding.{call-in, calls-in, answer-bytes}
+use Rattle.history.specs.Reports.{answers-of}
 use Rattle.history.specs.Running.{Answered, Led, Ended}
 
 -- ---- calls in bytes
@@ -82,6 +80,13 @@ answers-snoc net cs c =
     ∙ ap (concat-map answer-bytes) (map-snoc (log (fresh net) cs) (event (after (fresh net) cs) c))
     ∙ concat-map-append answer-bytes (map (λ (x : Event). x .answer) (log (fresh net) cs)) (respond (after (fresh net) cs) c .answer ∷ [])
 
+-- a call served, and its answer written
+pub answered : (net : Net) (call call′ : Call) → call ≡ call′ → (counts requests markings : List ℕ) (ring : Ring) (tally : Tally) (counts′ requests′ markings′ : List ℕ) (s : Served) (out : List ℕ) (at : ℕ) (out′ : List ℕ)
+    → Serves net call counts requests markings ring tally counts′ requests′ markings′ s → out′ ≡ put out at (answer-bytes (s .answer))
+    → Answered net call′ counts requests markings ring tally counts′ requests′ markings′ s out at out′
+answered net call call′ e counts requests markings ring tally counts′ requests′ markings′ s out at out′ h w =
+    record { serves = rw e at h; written = w }
+
 -- before the first call
 pub led-none : (net : Net) (out : List ℕ) (tally : Tally) → tally ≡ record { granted = 0; refused = 0; undone = 0 }
     → Led net [] (replicate 48 0) (replicate 32 0) (replicate 1536 0) (record { first = 0; opened = 0 }) tally out out
@@ -134,51 +139,3 @@ unfolding board-in
 led-all net bs k h counts requests markings ring tally out₀ out l =
     let e : Led net (calls-in bs) counts requests markings ring tally out₀ out = rw (take-all k (calls-in bs) (omega (arith, calls-count bs))) at l in
     record { counts = ap (λ (s : State). s .board .counts) (e .state); tally-is = ap (λ (s : State). s .tally) (e .state); written = e .written }
-
--- ---- the test of a list of calls
-
-unknown-step : (k : ℕ) (bs : List ℕ) → 3 * k + 2 < length bs → unknown-call (drop (3 * k) bs) ≡ (ltb 3 (getD bs (3 * k) 0) || unknown-call (drop (3 * k + 3) bs))
-unfolding unknown-call
-unknown-step zero [] h = absurd (omega arith)
-unknown-step zero (a ∷ []) h = absurd (omega arith)
-unknown-step zero (a ∷ b ∷ []) h = absurd (omega arith)
-unknown-step zero (a ∷ b ∷ c ∷ bs) h = refl
-unknown-step (suc k) [] h = absurd (omega arith)
-unknown-step (suc k) (a ∷ []) h = absurd (omega arith)
-unknown-step (suc k) (a ∷ b ∷ []) h = absurd (omega arith)
-unknown-step (suc k) (a ∷ b ∷ c ∷ bs) h =
-    let l = a ∷ b ∷ c ∷ bs in
-    let p : 3 * suc k ≡ suc (suc (suc (3 * k))) = omega arith in
-    let p₃ : 3 * suc k + 3 ≡ suc (suc (suc (3 * k + 3))) = omega arith in
-    ap (λ (j : ℕ). unknown-call (drop j l)) p ∙ unknown-step k bs (omega arith)
-    ∙ sym (λ i. ltb 3 (getD l (p i) 0) || unknown-call (drop (p₃ i) l))
-
-pub unknown-next : (i : ℕ) (bs : List ℕ) → i % 3 ≡ 0 → i + 2 < length bs → unknown-call (drop i bs) ≡ (ltb 3 (getD bs i 0) || unknown-call (drop (i + 3) bs))
-unknown-next i bs whole h =
-    let e : 3 * (i / 3) ≡ i = omega arith in
-    subst (λ (j : ℕ). unknown-call (drop j bs) ≡ (ltb 3 (getD bs j 0) || unknown-call (drop (j + 3) bs))) e
-    (unknown-step (i / 3) bs (subst (λ (j : ℕ). j + 2 < length bs) (sym e) h))
-
-or-true : (b : Bool) → (b || true) ≡ true
-or-true true = refl
-or-true false = refl
-
--- bytes that are not whole calls; a call that is none of the four; and neither
-pub calls-torn : (bs : List ℕ) → (length bs % 3 ≡ 0 → ⊥) → false ≡ not (no-calls bs)
-calls-torn bs h = sym (ap (λ (b : Bool). not (not b || unknown-call bs)) (ne-eqb (length bs % 3) 0 h))
-
-pub calls-unknown : (i : ℕ) (bs : List ℕ) → i % 3 ≡ 0 → i + 2 < length bs → unknown-call (drop i bs) ≡ unknown-call bs → 3 < getD bs i 0 → false ≡ not (no-calls bs)
-calls-unknown i bs whole h same big =
-    let u : unknown-call bs ≡ true = sym same ∙ unknown-next i bs whole h ∙ ap (λ (b : Bool). b || unknown-call (drop (i + 3) bs)) (lt-ltb 3 (getD bs i 0) big) in
-    sym (ap (λ (b : Bool). not (not (eqb (length bs % 3) 0) || b)) u ∙ ap not (or-true (not (eqb (length bs % 3) 0))))
-
-pub calls-known : (i : ℕ) (bs : List ℕ) → i % 3 ≡ 0 → i + 2 < length bs → unknown-call (drop i bs) ≡ unknown-call bs → getD bs i 0 ≤ 3
-    → unknown-call (drop (i + 3) bs) ≡ unknown-call bs
-calls-known i bs whole h same small =
-    sym (unknown-next i bs whole h ∙ ap (λ (b : Bool). b || unknown-call (drop (i + 3) bs)) (le-ltb 3 (getD bs i 0) small)) ∙ same
-
-pub calls-whole : (i : ℕ) (bs : List ℕ) → length bs % 3 ≡ 0 → i ≡ length bs → unknown-call (drop i bs) ≡ unknown-call bs → true ≡ not (no-calls bs)
-unfolding unknown-call
-calls-whole i bs whole e same =
-    let none : unknown-call bs ≡ false = sym same ∙ ap unknown-call (ap (λ (k : ℕ). drop k bs) e ∙ drop-length bs) in
-    sym (ap₂ (λ (b u : Bool). not (not b || u)) (eq-eqb (length bs % 3) 0 whole) none)

@@ -1,4 +1,3 @@
 pub mod Chains
-pub mod Calling
 pub mod Leading
 pub mod Reporting

@@ -26,7 +26,8 @@ use Rattle.engine.proofs.Describing.{composable, described, few-of}
 use Rattle.records.specs.Bytes.{put}
 use Rattle.records.proofs.Puts.{put-next, put-start}
 use Rattle.history.specs.Chains.{loaded}
-use Rattle.history.specs.Reports.{Ran, calls-in, no-calls, answers-of, tally-bytes, state-bytes, report, ran}
+use Rattle.encoding.specs.Encoding.{calls-in, no-calls, tally-bytes}
+use Rattle.history.specs.Reports.{Ran, answers-of, state-bytes, report, ran}
 use Rattle.history.specs.Running.{Held, Ended, Reports}
 use Rattle.history.specs.declared.lists.Ending.{Ending}
 use Rattle.history.proofs.Leading.{calls-count, answers-long}

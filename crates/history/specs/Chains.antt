@@ -4,7 +4,7 @@ use Prim.Native.Nat.{ℕ}
 use mathlib.Core.Path.{_≡_}
 use mathlib.Core.List.{List, [], _∷_, map}
 use Rattle.model.specs.Relations.{Net}
-use Rattle.model.specs.Machine.{Event, State, zeros, fresh, after, log, begin, replayed-calls}
+use Rattle.model.specs.Machine.{Event, State, zeros, fresh, after, log, replayed-calls}
 use Rattle.model.specs.Image.{edition-1, load}
 use Rattle.model.specs.Claims.{Demand3, Rules, ending, events}
 use Rattle.model.specs.declared.Call.{Call}

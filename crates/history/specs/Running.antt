@@ -16,7 +16,8 @@ use Rattle.steps.specs.Steps.{Describes}
 use Rattle.serving.specs.Serving.{Serves, state-at}
 use Rattle.serving.specs.declared.serving.Served.{Served}
 use Rattle.records.specs.Bytes.{put}
-use Rattle.history.specs.Reports.{answer-bytes, calls-in, answers-of, report}
+use Rattle.encoding.specs.Encoding.{answer-bytes, calls-in}
+use Rattle.history.specs.Reports.{answers-of, report}
 use Rattle.history.specs.declared.lists.Ending.{Ending}
 
 -- the call is served, and its answer stands in the output from a place on

@@ -1,7 +1,6 @@
 // A list of calls from lent bytes, on the net freshly loaded from an image, and its answers in a lent buffer.
 ghost use mathlib.Core.Path.{_≡_};
-ghost use mathlib.Core.Bool.{not};
-ghost use Prim.Native.Nat.{_+_, _*_, _/_, _%_, _<_, _≤_};
+ghost use Prim.Native.Nat.{_+_, _*_, _/_, _<_, _≤_};
 ghost use mathlib.Core.List.{[], _++_};
 ghost use lib.ListN.{length, getD, take};
 ghost use Rattle.model.specs.Machine.{fresh};
@@ -11,53 +10,13 @@ ghost use Rattle.net.specs.Tables.{columns};
 ghost use Rattle.records.specs.Bytes.{put};
 ghost use Rattle.steps.specs.Steps.{Describes};
 ghost use Rattle.serving.specs.Serving.{Runs, Running};
-ghost use Rattle.history.specs.Reports.{call-in, no-calls, answer-bytes, tally-bytes, ran};
+ghost use Rattle.encoding.specs.Encoding.{call-in, tally-bytes};
+ghost use Rattle.history.specs.Reports.{ran};
 ghost use Rattle.history.specs.Running.{Answered, Held, Ended, Reports};
-use model::Answer;
-use model::Call;
 use serving::Served;
 use slots::Ring;
 use state::Engine;
 use state::Tally;
-
-// The call in three bytes.
-fn call_of(k: u8, low: u8, high: u8) -> Call
-    ensures { λ r. ⌜ r ≡ call-in k low high ⌝ }
-{
-    let c = layout::pair(low, high);
-    match k {
-        0 => Call::Activate(c),
-        1 => Call::Deactivate(c),
-        2 => Call::Undo,
-        _ => Call::Settle,
-    }
-}
-
-// The call that begins at byte i. The caller knows that it is whole.
-fn call_at(calls: &[u8], i: usize) -> Call
-    requires { ⌜ i + 2 < length (now calls) ⌝ }
-    ensures { λ r. ⌜ r ≡ call-in (getD (now (calls .entry)) i 0) (getD (now (calls .entry)) (i + 1) 0) (getD (now (calls .entry)) (i + 2) 0) ⌝ }
-{
-    call_of(calls[i], calls[i + 1], calls[i + 2])
-}
-
-// Writes an answer's five bytes from a place on. The caller has room for them.
-fn write_answer(out: &mut [u8], at: usize, answer: Answer)
-    requires { ⌜ at + 4 < length (now out) ⌝ }
-    ensures { λ _. ⌜ now (out .exit) ≡ put (now (out .entry)) at (answer-bytes answer) ⌝ }
-{
-    let verdict = answer.verdict;
-    let firings = answer.firings;
-    let forced = answer.forced;
-    let bytes = [
-        model::number(verdict),
-        (firings % 256) as u8,
-        (firings / 256 % 256) as u8,
-        (forced % 256) as u8,
-        (forced / 256 % 256) as u8,
-    ];
-    records::copy(out, at, &bytes);
-}
 
 // Makes call k of the list and writes its answer as answer k of the output: a call is three bytes, an answer five.
 fn answer_one<'a>(
@@ -104,9 +63,9 @@ fn answer_one<'a>(
         markings,
         ring,
         tally,
-        call_at(calls, 3 * k),
+        encoding::call_at(calls, 3 * k),
     );
-    write_answer(out, 5 * k, s.answer);
+    encoding::write_answer(out, 5 * k, s.answer);
     s
 }
 
@@ -188,53 +147,13 @@ fn answer_all<'a>(
     Ending { counts, tally }
 }
 
-// Whether the bytes are whole calls, each of the four.
-fn are_calls(calls: &[u8]) -> bool
-    ensures { λ r. ⌜ r ≡ not (no-calls (now (calls .entry))) ⌝ }
-{
-    if calls.len() % 3 != 0 {
-        return false;
-    }
-    let mut i = 0;
-    while calls.len() > i {
-        if 3 < calls[i] {
-            return false;
-        }
-        i += 3;
-    }
-    true
-}
-
-// The totals in four bytes each, the low byte first.
-fn total_bytes(t: Tally) -> [u8; 12]
-    ensures { λ r. ⌜ r ≡ tally-bytes (tally-in t) ⌝ }
-{
-    let g = t.granted;
-    let r = t.refused;
-    let u = t.undone;
-    [
-        (g % 256) as u8,
-        (g / 256 % 256) as u8,
-        (g / 256 / 256 % 256) as u8,
-        (g / 256 / 256 / 256 % 256) as u8,
-        (r % 256) as u8,
-        (r / 256 % 256) as u8,
-        (r / 256 / 256 % 256) as u8,
-        (r / 256 / 256 / 256 % 256) as u8,
-        (u % 256) as u8,
-        (u / 256 % 256) as u8,
-        (u / 256 / 256 % 256) as u8,
-        (u / 256 / 256 / 256 % 256) as u8,
-    ]
-}
-
 // Writes the counts of n contexts and the totals from a place on. The caller has room for them.
 fn write_state(out: &mut [u8], at: usize, n: usize, end: Ending)
     requires { ⌜ (n ≤ 48) × (at + n + 12 ≤ length (now out)) ⌝ }
     ensures { λ _. ⌜ now (out .exit) ≡ put (now (out .entry)) at (take n (end .counts) ++ tally-bytes (tally-in (end .tally))) ⌝ }
 {
     let counts = end.counts;
-    let totals = total_bytes(end.tally);
+    let totals = encoding::total_bytes(end.tally);
     records::copy(out, at, &counts[..n]);
     records::copy(out, at + n, &totals);
 }
@@ -280,7 +199,7 @@ fn run_on(e: Engine, calls: &[u8], out: &mut [u8]) -> usize
 pub fn run(image: &[u8], calls: &[u8], out: &mut [u8]) -> usize
     ensures { λ r. ⌜ (record { written = r; output = now (out .exit) }) ≡ ran (now (image .entry)) (now (calls .entry)) (now (out .entry)) ⌝ }
 {
-    if !are_calls(calls) {
+    if !encoding::are_calls(calls) {
         return 0;
     }
     let loaded = image::load(image);

@@ -1,7 +1,7 @@
 // Listing: the list that an accepted image stands for, written to the output.
 ghost use mathlib.Core.Path.{_≡_};
 ghost use mathlib.Core.List.{_∷_};
-ghost use Prim.Native.Nat.{ℕ, _+_, _*_, _≤_};
+ghost use Prim.Native.Nat.{_+_, _*_, _≤_};
 ghost use lib.ListN.{length, take};
 ghost use Rattle.model.specs.Image.{edition-1, load};
 ghost use Rattle.records.specs.Bytes.{put};

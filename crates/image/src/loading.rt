@@ -1,7 +1,7 @@
 // Loading: the checks run in order, each on its part of the image, and an engine is made of what passes.
 ghost use mathlib.Core.Path.{_≡_};
 ghost use mathlib.Core.List.{[]};
-ghost use Prim.Native.Nat.{ℕ, _*_};
+ghost use Prim.Native.Nat.{_*_};
 ghost use lib.ListN.{length};
 ghost use Rattle.model.specs.Refusals.{first-refusal};
 ghost use Rattle.model.specs.Machine.{fresh};

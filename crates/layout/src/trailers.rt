@@ -1,6 +1,6 @@
 // The trailer at an image's end, its checks, and the parts of the image that it points to.
 ghost use mathlib.Core.Path.{_≡_};
-ghost use Prim.Native.Nat.{ℕ, _+_, _*_, _<_, _≤_};
+ghost use Prim.Native.Nat.{_+_, _*_, _<_, _≤_};
 ghost use lib.ListN.{length};
 ghost use Rattle.model.specs.Refusals.{first-refusal};
 ghost use Rattle.model.specs.Image.{edition-1, trailer-from, trailer-fields, trailer-of, read, bad-layout, records-of};

@@ -14,7 +14,7 @@ use Rattle.model.specs.Sets.{Each, nil, cons, IsByte, any, concat-map, e
 use Rattle.model.specs.Refusals
 use Rattle.model.specs.Refusals.{Check, first-refusal, is-granted}
 use Rattle.model.specs.Relations.{Net, size, relation-count, empty-net, has-zero, misfit, repeats}
-use Rattle.model.specs.Transitions.{extra-transitions, transitions-of, transitions}
+use Rattle.model.specs.Transitions.{extra-transitions, transitions-of}
 use Rattle.model.specs.Image.{Format, Trailer, Loaded, read, relation-fields, relation-size, relations-size, relation-bytes, records-size, records, trailer-fields, trailer-from, trailer-size, trailer-bytes, trailer, image, transition-count, bad-sizes, read-relations, trailer-start, trailer-of, bad-layout, net-of, records-of, other-records, load-checks, load-checks-by, load}
 use Rattle.model.specs.Claims.{Fits, Valid, Usable, Accepted}
 use Rattle.model.specs.declared.Verdict.{Verdict}

@@ -25,7 +25,7 @@ use Rattle.model.proofs.Effects.{granted-step, effect-firings, explaine
 use Rattle.model.proofs.Replay.{Grants}
 use Rattle.model.proofs.Shapes.{Shape, is-act, is-deac, is-drop, is-implied, is-required, is-decline}
 
--- what holds of every marking of an activation's step that begins at the counts m₀
+-- what holds, in a net without suggestions, of every marking of an activation's step that begins at the counts m₀
 record Up (net : Net) (m₀ : Counts) (m : Marking) : Type 0 where
   kept : (c : ℕ) → m₀ c ≤ m .count c
   no-not : (c : ℕ) → m .prNot c ≡ 0
@@ -196,7 +196,7 @@ record Rose (net : Net) (m₀ : Counts) (m : Marking) (t : Transition) : Type 0 
   unforced : is-forced t ≡ false
   asked : (q : ℕ) → Asked m₀ q m → Asked m₀ q (fire t m)
 
--- of a step of an activation only an act(c) fires
+-- in such a net only an act(c) fires in an activation's step
 shape-rose : (net : Net) → Fits net → SuggestsNone net → (m₀ : Counts) (m : Marking) → Up net m₀ m → {t : Transition} → Shape net t → ready-of net m t ≡ true → Rose net m₀ m t
 unfolding act deac drop-of forced
 shape-rose net fits none m₀ m up (is-act c h) e = record { up = act-up net fits m₀ m up c h e; spent = act-left net fits m₀ m up c h e; unforced = refl; asked = act-asked net fits m₀ m up c h e }

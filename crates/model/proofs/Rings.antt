@@ -4,7 +4,6 @@ use Prim.Native.Nat.{ℕ, _+_, _%_, _≤_}
 use native.Mathlib.Omega.{arith}
 use mathlib.Core.Path.{_≡_, refl}
 use mathlib.Core.Logic.{_≢_}
-use mathlib.Core.Bool.{false}
 use mathlib.Core.List.{map}
 use lib.ListN.{replicate}
 use Rattle.model.specs.Sets.{range}

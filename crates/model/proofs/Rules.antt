@@ -11,7 +11,7 @@ use mathlib.Core.List.{List, [], _∷_}
 use borrow.Author.Tests.{eqb-true, eq-eqb, lt-ltb}
 use Rattle.model.specs.Sets.{Set, singleton, empty-set, bit, any, concat-map, range, Each, nil, cons, IsByte}
 use Rattle.model.specs.Relations.{Net, Relation, size, capacity, matches, related, excluded, excludes, implies, requires}
-use Rattle.model.specs.Transitions.{Transition, forced, extra, context-transitions, extra-transitions, transitions-of, transitions}
+use Rattle.model.specs.Transitions.{Transition, forced, extra, context-transitions, extra-transitions, transitions-of}
 use Rattle.model.specs.Firing.{Marking, below-capacity, ready-at, ready, ready-of, enabled, enabled-of, next, next-of, fire, clear, is-empty, step-limit}
 use Rattle.model.specs.Machine.{Request, Counts, Event, zeros, initial-marking, step-of, effect}
 use Rattle.model.specs.Image.{Format}

@@ -9,7 +9,7 @@ use lib.Dec.{eqb, T}
 use lib.ListN.{length, drop, set, replicate}
 use Rattle.model.specs.Sets.{bit, number, all-below, any, all, concat-map, range, equal-lists}
 use Rattle.model.specs.Relations.{Net, size, excludes, causes, implies, requires, suggests, same, has-zero, misfit, repeats-after, matches, related, excluded}
-use Rattle.model.specs.Transitions.{Role, activates, deactivates, forces, drops, declines, Transition, asks-on, asks-off, act, deac, forced, drop-of, decline-of, extra, context-transitions, extra-transitions, transitions-of, transitions}
+use Rattle.model.specs.Transitions.{Role, activates, deactivates, forces, drops, declines, Transition, asks-on, asks-off, act, deac, forced, drop-of, decline-of, extra, context-transitions, extra-transitions, transitions-of}
 use Rattle.model.specs.Machine.{Request, Event, fresh, after, log, standing, extend-by, history, step-of, activation, deactivation, initial-marking, concluded, effect, commit, make-request, undo-from, settle, reply, tally-after, respond, reading, board-at}
 use Rattle.model.specs.Image.{edition-1, image, records, trailer, trailer-bytes, trailer-of, compose, load, transition-count, set-bytes, record-bytes, relation-bytes, bad-sizes, bad-layout, net-of, records-of, other-records}
 use Rattle.model.specs.Firing.{below-capacity, ready-at, ready, enabled, next, fire, stopped, after-firing, fire-until-quiet, clear}
@@ -81,7 +81,7 @@ forced-in-vain = record { caps = 1 ∷ 1 ∷ 1 ∷ []; rels = relation requires 
 abbrev declined-need : Net
 declined-need = record { caps = 1 ∷ 1 ∷ 1 ∷ []; rels = relation implies 0 1 ∷ relation excludes 1 2 ∷ relation suggests 2 1 ∷ [] }
 
--- 0 causes 1, which implies 2 and causes 4; 3 excludes 2 and suggests both. In which order it suggests them is left open.
+-- 0 causes 1, which implies 2 and causes 4; 3 excludes 2 and suggests 2 and 4, in the order given.
 abbrev declined-order : (first second : ℕ) → Net
 declined-order x y =
     record {
@@ -364,7 +364,12 @@ cases =
     (line Granted 2 0 (1 ∷ 1 ∷ []) ∷ line Granted 2 0 (2 ∷ 1 ∷ []) ∷ [])
     ∷ fires (record { caps = 2 ∷ 1 ∷ []; rels = relation suggests 0 1 ∷ [] }) (Activate 0 ∷ []) (activation 0) (activates ∷ declines ∷ [])
     -- two that suggest each other fill up, and the last token is declined
-    ∷ run (record { caps = 2 ∷ 2 ∷ []; rels = relation suggests 0 1 ∷ relation suggests 1 0 ∷ [] }) (Activate 1 ∷ []) (line Granted 5 0 (2 ∷ 2 ∷ []) ∷ [])
+    ∷ run
+    (record {
+      caps = 2 ∷ 2 ∷ [];
+      rels = relation suggests 0 1 ∷ relation suggests 1 0 ∷ [];
+    })
+    (Activate 1 ∷ []) (line Granted 5 0 (2 ∷ 2 ∷ []) ∷ [])
     -- 15: what an implication asked for is declined, so the source of the implication is forced off again; nothing of it is kept, it
     -- opens nothing and counts as refused
     ∷ run declined-need (Activate 2 ∷ Activate 0 ∷ Undo ∷ Activate 0 ∷ [])
@@ -389,18 +394,39 @@ cases =
     ∷ run (record { caps = 2 ∷ 1 ∷ []; rels = relation suggests 0 1 ∷ [] }) (Activate 1 ∷ Activate 1 ∷ [])
     (line Granted 1 0 (0 ∷ 1 ∷ []) ∷ line (Refused 15) 1 0 (0 ∷ 1 ∷ []) ∷ [])
     -- Where act of the requested context fired, its count can still end where it was, or lower.
-    ∷ run (record { caps = 2 ∷ 1 ∷ 1 ∷ []; rels = relation suggests 0 1 ∷ relation causes 1 0 ∷ relation implies 1 2 ∷ relation excludes 1 2 ∷ relation suggests 2 0 ∷ relation suggests 1 2 ∷ [] }) (Activate 2 ∷ Deactivate 2 ∷ Activate 0 ∷ [])
+    ∷ run
+    (record {
+      caps = 2 ∷ 1 ∷ 1 ∷ [];
+      rels =
+          relation suggests 0 1 ∷ relation causes 1 0 ∷ relation implies 1 2 ∷ relation excludes 1 2
+          ∷ relation suggests 2 0 ∷ relation suggests 1 2 ∷ [];
+    })
+    (Activate 2 ∷ Deactivate 2 ∷ Activate 0 ∷ [])
     (line Granted 3 0 (1 ∷ 0 ∷ 1 ∷ [])
     ∷ line Granted 1 0 (1 ∷ 0 ∷ 0 ∷ [])
     ∷ line (Refused 15) 6 1 (1 ∷ 0 ∷ 0 ∷ [])
     ∷ [])
-    ∷ run (record { caps = 3 ∷ 1 ∷ 1 ∷ 1 ∷ []; rels = relation suggests 0 1 ∷ relation causes 1 0 ∷ relation causes 1 3 ∷ relation causes 3 0 ∷ relation implies 1 2 ∷ relation excludes 1 2 ∷ relation suggests 2 0 ∷ relation suggests 1 2 ∷ [] }) (Activate 2 ∷ Activate 0 ∷ Deactivate 2 ∷ Activate 0 ∷ [])
+    ∷ run
+    (record {
+      caps = 3 ∷ 1 ∷ 1 ∷ 1 ∷ [];
+      rels =
+          relation suggests 0 1 ∷ relation causes 1 0 ∷ relation causes 1 3 ∷ relation causes 3 0 ∷ relation implies 1 2
+          ∷ relation excludes 1 2 ∷ relation suggests 2 0 ∷ relation suggests 1 2 ∷ [];
+    })
+    (Activate 2 ∷ Activate 0 ∷ Deactivate 2 ∷ Activate 0 ∷ [])
     (line Granted 3 0 (1 ∷ 0 ∷ 1 ∷ 0 ∷ [])
     ∷ line Granted 2 0 (2 ∷ 0 ∷ 1 ∷ 0 ∷ [])
     ∷ line Granted 1 0 (2 ∷ 0 ∷ 0 ∷ 0 ∷ [])
     ∷ line (Refused 15) 10 1 (2 ∷ 0 ∷ 0 ∷ 0 ∷ [])
     ∷ [])
-    ∷ run (record { caps = 2 ∷ 1 ∷ 1 ∷ 1 ∷ []; rels = relation requires 0 1 ∷ relation suggests 0 2 ∷ relation causes 2 1 ∷ relation implies 2 3 ∷ relation excludes 2 3 ∷ relation suggests 3 1 ∷ relation suggests 2 3 ∷ [] }) (Activate 3 ∷ Activate 0 ∷ Deactivate 3 ∷ Activate 0 ∷ [])
+    ∷ run
+    (record {
+      caps = 2 ∷ 1 ∷ 1 ∷ 1 ∷ [];
+      rels =
+          relation requires 0 1 ∷ relation suggests 0 2 ∷ relation causes 2 1 ∷ relation implies 2 3
+          ∷ relation excludes 2 3 ∷ relation suggests 3 1 ∷ relation suggests 2 3 ∷ [];
+    })
+    (Activate 3 ∷ Activate 0 ∷ Deactivate 3 ∷ Activate 0 ∷ [])
     (line Granted 2 0 (0 ∷ 1 ∷ 0 ∷ 1 ∷ [])
     ∷ line Granted 2 0 (1 ∷ 1 ∷ 0 ∷ 1 ∷ [])
     ∷ line Granted 1 0 (1 ∷ 1 ∷ 0 ∷ 0 ∷ [])
@@ -448,12 +474,29 @@ cases =
     ∷ line (Refused 15) 3 1 (0 ∷ 0 ∷ 1 ∷ [])
     ∷ [])
     -- of two tokens each is declined by itself, though two suggestions have the same target
-    ∷ run (record { caps = 1 ∷ 1 ∷ 1 ∷ []; rels = relation suggests 0 1 ∷ relation excludes 1 2 ∷ relation suggests 1 2 ∷ relation suggests 0 2 ∷ [] }) (Activate 0 ∷ [])
+    ∷ run
+    (record {
+      caps = 1 ∷ 1 ∷ 1 ∷ [];
+      rels = relation suggests 0 1 ∷ relation excludes 1 2 ∷ relation suggests 1 2 ∷ relation suggests 0 2 ∷ [];
+    })
+    (Activate 0 ∷ [])
     (line Granted 4 0 (1 ∷ 1 ∷ 0 ∷ [])
     ∷ [])
-    ∷ sizes (record { caps = 1 ∷ 1 ∷ 1 ∷ []; rels = relation suggests 0 1 ∷ relation excludes 1 2 ∷ relation suggests 1 2 ∷ relation suggests 0 2 ∷ [] }) 9 453 441 464
+    ∷ sizes
+    (record {
+      caps = 1 ∷ 1 ∷ 1 ∷ [];
+      rels = relation suggests 0 1 ∷ relation excludes 1 2 ∷ relation suggests 1 2 ∷ relation suggests 0 2 ∷ [];
+    })
+    9 453 441 464
     -- what is asked off does not keep a decline back
-    ∷ run (record { caps = 1 ∷ 1 ∷ 1 ∷ 1 ∷ []; rels = relation implies 0 1 ∷ relation implies 0 3 ∷ relation excludes 1 2 ∷ relation excludes 3 2 ∷ relation suggests 2 1 ∷ relation suggests 2 3 ∷ [] }) (Activate 2 ∷ Activate 0 ∷ [])
+    ∷ run
+    (record {
+      caps = 1 ∷ 1 ∷ 1 ∷ 1 ∷ [];
+      rels =
+          relation implies 0 1 ∷ relation implies 0 3 ∷ relation excludes 1 2 ∷ relation excludes 3 2
+          ∷ relation suggests 2 1 ∷ relation suggests 2 3 ∷ [];
+    })
+    (Activate 2 ∷ Activate 0 ∷ [])
     (line Granted 3 0 (0 ∷ 0 ∷ 1 ∷ 0 ∷ [])
     ∷ line (Refused 12) 4 1 (0 ∷ 0 ∷ 1 ∷ 0 ∷ [])
     ∷ [])
@@ -466,7 +509,13 @@ cases =
     ∷ line Granted 1 0 (1 ∷ 1 ∷ 1 ∷ [])
     ∷ [])
     -- a suggestion beside each other kind: the same ends, and the opposite ones
-    ∷ rows (record { caps = 1 ∷ 1 ∷ 1 ∷ []; rels = relation suggests 0 1 ∷ relation causes 0 1 ∷ relation implies 0 2 ∷ relation requires 1 2 ∷ relation causes 2 1 ∷ relation suggests 1 2 ∷ [] })
+    ∷ rows
+    (record {
+      caps = 1 ∷ 1 ∷ 1 ∷ [];
+      rels =
+          relation suggests 0 1 ∷ relation causes 0 1 ∷ relation implies 0 2 ∷ relation requires 1 2
+          ∷ relation causes 2 1 ∷ relation suggests 1 2 ∷ [];
+    })
     ((2 ∷ 0 ∷ 1 ∷ 0 ∷ 1 ∷ 6 ∷ 0 ∷ 0 ∷ 0 ∷ [])
     ∷ (2 ∷ 1 ∷ 0 ∷ 1 ∷ 0 ∷ 0 ∷ 6 ∷ 0 ∷ 0 ∷ [])
     ∷ (2 ∷ 4 ∷ 2 ∷ 0 ∷ 6 ∷ 4 ∷ 0 ∷ 0 ∷ 0 ∷ [])
@@ -480,19 +529,34 @@ cases =
     ∷ (1 ∷ 0 ∷ 0 ∷ 2 ∷ 0 ∷ 0 ∷ 0 ∷ 2 ∷ 0 ∷ [])
     ∷ (1 ∷ 0 ∷ 4 ∷ 0 ∷ 0 ∷ 0 ∷ 0 ∷ 0 ∷ 0 ∷ [])
     ∷ [])
-    ∷ run (record { caps = 1 ∷ 1 ∷ 1 ∷ []; rels = relation requires 0 2 ∷ relation suggests 0 1 ∷ relation causes 0 1 ∷ [] }) (Activate 2 ∷ Activate 0 ∷ Deactivate 2 ∷ [])
+    ∷ run
+    (record {
+      caps = 1 ∷ 1 ∷ 1 ∷ [];
+      rels = relation requires 0 2 ∷ relation suggests 0 1 ∷ relation causes 0 1 ∷ [];
+    })
+    (Activate 2 ∷ Activate 0 ∷ Deactivate 2 ∷ [])
     (line Granted 1 0 (0 ∷ 0 ∷ 1 ∷ [])
     ∷ line Granted 2 0 (1 ∷ 1 ∷ 1 ∷ [])
     ∷ line Granted 3 1 (0 ∷ 0 ∷ 0 ∷ [])
     ∷ [])
-    ∷ run (record { caps = 1 ∷ 2 ∷ []; rels = relation suggests 0 1 ∷ relation requires 0 1 ∷ [] }) (Activate 0 ∷ Activate 1 ∷ Activate 0 ∷ Deactivate 1 ∷ Deactivate 1 ∷ [])
+    ∷ run
+    (record {
+      caps = 1 ∷ 2 ∷ [];
+      rels = relation suggests 0 1 ∷ relation requires 0 1 ∷ [];
+    })
+    (Activate 0 ∷ Activate 1 ∷ Activate 0 ∷ Deactivate 1 ∷ Deactivate 1 ∷ [])
     (line (Refused 12) 0 0 (0 ∷ 0 ∷ [])
     ∷ line Granted 1 0 (0 ∷ 1 ∷ [])
     ∷ line Granted 2 0 (1 ∷ 2 ∷ [])
     ∷ line Granted 1 0 (1 ∷ 1 ∷ [])
     ∷ line Granted 2 1 (0 ∷ 0 ∷ [])
     ∷ [])
-    ∷ run (record { caps = 1 ∷ 2 ∷ []; rels = relation requires 0 1 ∷ relation suggests 0 1 ∷ [] }) (Activate 1 ∷ Activate 0 ∷ Deactivate 1 ∷ Deactivate 1 ∷ [])
+    ∷ run
+    (record {
+      caps = 1 ∷ 2 ∷ [];
+      rels = relation requires 0 1 ∷ relation suggests 0 1 ∷ [];
+    })
+    (Activate 1 ∷ Activate 0 ∷ Deactivate 1 ∷ Deactivate 1 ∷ [])
     (line Granted 1 0 (0 ∷ 1 ∷ [])
     ∷ line Granted 2 0 (1 ∷ 2 ∷ [])
     ∷ line Granted 1 0 (1 ∷ 1 ∷ [])
@@ -518,18 +582,38 @@ cases =
     ∷ line Granted 1 0 (1 ∷ 1 ∷ [])
     ∷ line Granted 2 1 (0 ∷ 0 ∷ [])
     ∷ [])
-    ∷ run (record { caps = 1 ∷ 1 ∷ []; rels = relation excludes 0 1 ∷ relation suggests 0 1 ∷ [] }) (Activate 0 ∷ Deactivate 0 ∷ Activate 1 ∷ Activate 0 ∷ [])
+    ∷ run
+    (record {
+      caps = 1 ∷ 1 ∷ [];
+      rels = relation excludes 0 1 ∷ relation suggests 0 1 ∷ [];
+    })
+    (Activate 0 ∷ Deactivate 0 ∷ Activate 1 ∷ Activate 0 ∷ [])
     (line Granted 2 0 (1 ∷ 0 ∷ [])
     ∷ line Granted 1 0 (0 ∷ 0 ∷ [])
     ∷ line Granted 1 0 (0 ∷ 1 ∷ [])
     ∷ line (Refused 12) 0 0 (0 ∷ 1 ∷ [])
     ∷ [])
-    ∷ run (record { caps = 1 ∷ 1 ∷ []; rels = relation suggests 0 1 ∷ relation excludes 0 1 ∷ [] }) (Activate 0 ∷ Deactivate 0 ∷ Activate 1 ∷ Activate 0 ∷ [])
+    ∷ run
+    (record {
+      caps = 1 ∷ 1 ∷ [];
+      rels = relation suggests 0 1 ∷ relation excludes 0 1 ∷ [];
+    })
+    (Activate 0 ∷ Deactivate 0 ∷ Activate 1 ∷ Activate 0 ∷ [])
     (line Granted 2 0 (1 ∷ 0 ∷ [])
     ∷ line Granted 1 0 (0 ∷ 0 ∷ [])
     ∷ line Granted 1 0 (0 ∷ 1 ∷ [])
     ∷ line (Refused 12) 0 0 (0 ∷ 1 ∷ [])
     ∷ [])
+    ∷ run (record { caps = 1 ∷ 1 ∷ 1 ∷ []; rels = relation causes 0 1 ∷ relation suggests 0 1 ∷ relation excludes 1 2 ∷ [] })
+    (Activate 0 ∷ Deactivate 1 ∷ Deactivate 0 ∷ Activate 2 ∷ Activate 0 ∷ [])
+    (line Granted 2 0 (1 ∷ 1 ∷ 0 ∷ [])
+    ∷ line Granted 1 0 (1 ∷ 0 ∷ 0 ∷ [])
+    ∷ line Granted 2 0 (0 ∷ 0 ∷ 0 ∷ [])
+    ∷ line Granted 1 0 (0 ∷ 0 ∷ 1 ∷ [])
+    ∷ line Granted 2 0 (1 ∷ 0 ∷ 1 ∷ [])
+    ∷ [])
+    ∷ fires (record { caps = 1 ∷ 1 ∷ []; rels = relation causes 0 1 ∷ relation suggests 0 1 ∷ [] }) (Activate 0 ∷ Deactivate 1 ∷ []) (deactivation 0)
+    (deactivates ∷ drops ∷ [])
     -- The lower priority: 1 is forced off before its suggestion of 4 is declined, so that 4, which 1 excludes, comes on.
     ∷ run
     (record {

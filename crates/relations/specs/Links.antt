@@ -12,7 +12,7 @@ use Rattle.model.specs.Relations.{Relation, related, excluded, excludes, last-k
 abbrev pub word-of : (kind a : ℕ) → ℕ
 word-of k a = 48 * (k - excludes) + a
 
--- how many there are: 240
+-- how many words there are: 240
 abbrev pub grid-words : ℕ
 grid-words = word-of (suc last-kind) 0
 

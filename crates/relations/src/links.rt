@@ -1,7 +1,7 @@
 // What relations link, as words: for each kind and context the contexts at the other ends. Refusal 7.
 ghost use mathlib.Core.Path.{_≡_};
 ghost use mathlib.Core.List.{List, [], _∷_, _++_};
-ghost use Prim.Native.Nat.{ℕ, _+_, _*_, _<_, _≤_};
+ghost use Prim.Native.Nat.{_+_, _*_, _<_, _≤_};
 ghost use lib.ListN.{getD, set};
 ghost use Rattle.sets.specs.Sets.{members, insert};
 ghost use Rattle.model.specs.Sets.{any, number};

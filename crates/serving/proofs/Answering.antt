@@ -2,30 +2,27 @@
 -- Assumes nothing.
 use Prim.Native.Nat.{ℕ, _-_, _<_, _≤_}
 use native.Mathlib.Omega.{arith}
-use mathlib.Core.Path.{_≡_, refl, sym, subst, ap, ap₂, _∙_}
+use mathlib.Core.Path.{_≡_, sym, subst, ap, ap₂, _∙_}
 use mathlib.Core.Bool.{Bool, true, false, cond}
-use mathlib.Core.List.{List, _∷_, _++_}
-use lib.ListN.{drop}
+use mathlib.Core.List.{List}
 use Rattle.model.specs.Refusals.{is-granted}
 use Rattle.model.specs.Relations.{Net, size}
-use Rattle.model.specs.Machine.{Request, Counts, Effect, Board, Reply, State, call-of, effect, commit, make-request, reply, respond, requests, open-limit, tally-after, without-firings}
+use Rattle.model.specs.Machine.{Request, Counts, Board, Reply, call-of, effect, commit, make-request, reply, respond, tally-after, without-firings}
 use Rattle.model.specs.declared.Answer.{Answer}
 use Rattle.model.specs.declared.Call.{Call}
 use Rattle.model.specs.declared.Call.the-variants.{Undo, Settle}
-use Rattle.model.specs.declared.Verdict.{Verdict}
 use Rattle.model.specs.declared.Verdict.the-variants.{Granted, Refused}
 use Rattle.model.proofs.Effects.{explained}
 use Rattle.model.proofs.Replay.{reply-call}
-use Rattle.net.specs.Tables.{Columns}
 use Rattle.state.specs.View.{board-in, tally-in}
 use Rattle.slots.specs.View.{counts-in, request-in, entries}
-use Rattle.slots.specs.Changes.{Pushed, TakenBack, joined}
+use Rattle.slots.specs.Changes.{Pushed, TakenBack}
 use Rattle.slots.specs.declared.Ring.{Ring}
 use Rattle.state.specs.declared.Tally.{Tally}
 use Rattle.state.proofs.Boards.{undo-in-none, undo-in-some, settle-in, commit-in}
 use Rattle.slots.proofs.Rings.{joined-limit}
-use Rattle.steps.specs.Steps.{Describes, Judges}
-use Rattle.serving.specs.Serving.{Slots, Running, board-at, state-at, Answers, Tallied, Serves}
+use Rattle.judging.specs.Judges.{Judges}
+use Rattle.serving.specs.Serving.{Slots, board-at, Answers, Tallied, Serves}
 use Rattle.serving.specs.declared.serving.Asked.{Asked}
 use Rattle.serving.specs.declared.serving.Served.{Served}
 

@@ -2,7 +2,6 @@
 // composing the net or moving the engine from call to call.
 ghost use mathlib.Core.Path.{_≡_};
 ghost use Prim.Native.Nat.{_≤_};
-ghost use mathlib.Core.Bool.{cond};
 ghost use Rattle.model.specs.Relations.{Net};
 ghost use Rattle.model.specs.Machine.{call-of};
 ghost use Rattle.model.specs.declared.Call.the-variants.{Undo, Settle};
@@ -67,7 +66,7 @@ fn request<'a>(
     ensures { λ r. ⌜ ((net : Net) → Running net n t (columns (now (priority .entry)) (now (takesContext .entry)) (now (takesPr .entry)) (now (takesNot .entry)) (now (givesContext .entry)) (now (givesPr .entry)) (now (givesNot .entry)) (now (inhibContext .entry)) (now (inhibPr .entry))) (now (capacities .entry)) (now (requests .entry)) (now (markings .entry)) ring → Answers net (call-of (record { on = on; context = c })) (now (counts .entry)) (now (requests .entry)) (now (markings .entry)) ring (now (counts .exit)) (now (requests .exit)) (now (markings .exit)) r) ⌝ }
 {
     let before = copied(counts);
-    let answer = steps::judge(
+    let answer = judging::judge(
         priority,
         takesContext,
         takesPr,

@@ -8,8 +8,7 @@ use mathlib.Core.Path.{_≡_, refl, sym, ap, _∙_, subst}
 use mathlib.Core.Logic.{_≢_}
 use mathlib.Core.List.{List}
 use native.Mathlib.Decide.{ℕ-discrete}
-use native.Mathlib.Omega.{arith}
-use lib.ListN.{length, getD, set, length-set, replicate, length-replicate, getD-replicate}
+use lib.ListN.{getD, set, length-set, replicate, length-replicate, getD-replicate}
 use lib.Seq.{getD-set-same, getD-set-other}
 use Rattle.model.specs.Sets.{Set, empty-set, number}
 use Rattle.model.proofs.Masks.{number-cong}

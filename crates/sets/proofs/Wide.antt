@@ -1,16 +1,15 @@
 -- Sets of several words each, in one list: the laws of Rows at a word and a bit of it. For any width and number of words.
 -- Assumes nothing.
-use Prim.Native.Nat.{ℕ, zero, suc, zero-le, _<_, _≤_, _+_, _*_, _/_, _%_}
-use mathlib.Core.Bool.{Bool, true, false, _&&_, _||_}
-use mathlib.Core.Path.{_≡_, refl, sym, ap, ap₂, _∙_, subst, subst₂}
+use Prim.Native.Nat.{ℕ, zero, zero-le, _<_, _+_, _*_, _/_, _%_}
+use mathlib.Core.Bool.{Bool, true, _&&_, _||_}
+use mathlib.Core.Path.{_≡_, sym, ap, ap₂, _∙_, subst, subst₂}
 use mathlib.Core.List.{List}
 use native.Mathlib.Nat.{div-lt-iff-lt-mul, div-add-mod, div-add-mod', mod-lt, mul-comm, lt-of-le-of-lt}
-use native.Mathlib.Omega.{arith}
 use lib.Dec.{eqb}
 use lib.Arith.{digits-div, digits-mod, digits-lt}
-use lib.ListN.{length, getD, set, replicate}
+use lib.ListN.{getD, set, replicate}
 use borrow.Author.Tests.{eq-eqb, eqb-true}
-use Rattle.model.specs.Sets.{Set, empty-set, from, number, all-below}
+use Rattle.model.specs.Sets.{Set, empty-set, number, all-below}
 use Rattle.model.proofs.Tests.{and-left, and-right, and-both, below-at, below-make}
 use Rattle.sets.specs.Sets.{members, insert, mark, wide, Rows}
 use Rattle.sets.proofs.Laws.{same-bool}

@@ -1,7 +1,7 @@
 -- Sets of numbers, and the words that hold them: bit j of a word says whether j is in the set.
 -- `Set`, `singleton` and `number` are the model's; here is what a word adds to them. Nothing depends on a width.
 -- Assumes nothing.
-use Prim.Native.Nat.{ℕ, _+_, _*_, _/_, _%_, _^_, _<_, _≤_}
+use Prim.Native.Nat.{ℕ, _*_, _/_, _%_, _^_, _<_, _≤_}
 use mathlib.Core.Path.{_≡_}
 use mathlib.Core.Bool.{Bool, true, false, not, _&&_, _||_}
 use mathlib.Core.List.{List}

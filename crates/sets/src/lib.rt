@@ -1,6 +1,6 @@
 // Sets of numbers below 64, each held in a word: bit j is 1 where j is in the set.
 ghost use mathlib.Core.Path.{_≡_};
-ghost use Prim.Native.Nat.{ℕ, _<_, _≤_};
+ghost use Prim.Native.Nat.{_<_};
 ghost use Rattle.model.specs.Sets.{singleton, number};
 ghost use Rattle.sets.specs.Sets.{members, union, common, minus, insert, remove, within, apart, byte-of, Least};
 

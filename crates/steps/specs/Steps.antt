@@ -1,4 +1,4 @@
--- A net in arrays, and what a step and a request on them come to.
+-- A net in arrays, and what a step on them comes to.
 -- Assumes nothing.
 use Prim.Native.Nat.{ℕ, _<_, _≤_}
 use mathlib.Core.Path.{_≡_}
@@ -7,11 +7,9 @@ use lib.ListN.{length, getD}
 use Rattle.model.specs.Relations.{Net, size, capacity}
 use Rattle.model.specs.Transitions.{transitions}
 use Rattle.model.specs.Firing.{Marking, Outcome, forced-count, fire-until-quiet, step-limit}
-use Rattle.model.specs.Machine.{Effect}
 use Rattle.model.specs.Claims.{Fits}
-use Rattle.model.specs.declared.Answer.{Answer}
 use Rattle.net.specs.Tables.{Columns, Table}
-use Rattle.walk.specs.Markings.{counts-of, marking, Stands, AtMost}
+use Rattle.walk.specs.Markings.{marking, Stands, AtMost}
 use Rattle.walk.specs.declared.Marked.{Marked}
 use Rattle.steps.specs.declared.step.Stepped.{Stepped}
 
@@ -40,8 +38,3 @@ pub record Ends (n t : ℕ) (cols : Columns) (capacities counts temps counts′ 
   pub stands : Stands n capacities counts′ temps′ (r .marked)
   pub outcome : (net : Net) → Describes net n t cols capacities
       → Outcomes r (marking counts′ temps′) (fire-until-quiet net step-limit (marking counts temps))
-
--- the answer and the counts are those of the effect
-pub record Judges (a : Answer) (after : List ℕ) (e : Effect) : Type 0 where
-  pub answer : a ≡ e .answer
-  pub counts : counts-of after ≡ e .counts

@@ -1,7 +1,5 @@
-// A request on a composed net: the verdict before its step, the step's firings one by one, how it ends, and the verdict on it.
-mod requests;
+// The step on a composed net: its firings one by one, and how it ends.
 mod step;
 
-pub use requests::judge;
 pub use step::Stepped;
 pub use step::run_from;

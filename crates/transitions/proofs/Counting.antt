@@ -1,6 +1,6 @@
 -- The transitions of a net, one context or one relation at a time, and how many there are.
 -- Assumes nothing.
-use Prim.Native.Nat.{ℕ, zero, suc, _+_, _*_, _/_, _≤_}
+use Prim.Native.Nat.{ℕ, zero, suc, _+_, _*_, _≤_}
 use native.Mathlib.Nat.{add-zero, zero-add}
 use native.Mathlib.Numerals.{add-one}
 use native.Mathlib.Decide.{ℕ-discrete}
@@ -13,7 +13,7 @@ use Rattle.model.specs.Sets.{concat-map, range, singleton, empty-set}
 use Rattle.model.specs.Relations.{Relation, excludes, causes, implies, requires, suggests, last-kind}
 use Rattle.model.specs.Transitions.{drop-of, decline-of, forced, extra, extra-transitions, context-transitions, transitions-of}
 use Rattle.model.proofs.Sizes.{length-concat-map, length-range, length-extras}
-use Rattle.relations.specs.Reading.{relation, relation-at, first-relations, relations-in}
+use Rattle.relations.specs.Reading.{relation, relation-at, first-relations}
 use Rattle.relations.proofs.Reading.{first-more, length-first}
 
 concat-map-snoc {ℓ κ} : {A : Type ℓ} {B : Type κ} (f : A → List B) (xs : List A) (x : A) → concat-map f (xs ++ (x ∷ [])) ≡ concat-map f xs ++ f x

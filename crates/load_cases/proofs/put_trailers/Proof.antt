@@ -1,5 +1,5 @@
 -- The measure is what is left of the image; a turn leaves its length as it was.
-use Prim.Native.Nat.{_-_, _≤_}
+use Prim.Native.Nat.{_-_}
 use mathlib.Core.Path.{_≡_}
 use borrow.Author.Needs.{needs}
 use lib.ListN.{length}

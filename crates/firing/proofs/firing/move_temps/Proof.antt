@@ -5,7 +5,7 @@ use mathlib.Core.Path.{_≡_, sym, ap, _∙_}
 use native.Mathlib.Omega.{arith}
 use borrow.Author.Needs.{needs}
 use lib.Dec.{ltb}
-use lib.ListN.{length, getD, set}
+use lib.ListN.{length, getD}
 use Rattle.sets.specs.Sets.{members, upto}
 use Rattle.model.specs.Sets.{number}
 use Rattle.firing.specs.Moves.{Moved, waiting}

@@ -8,7 +8,7 @@ use Rattle.model.specs.Relations.{Net}
 use Rattle.net.specs.Tables.{columns}
 use Rattle.steps.specs.Steps.{Describes}
 use Rattle.serving.specs.Serving.{Slots, Running}
-use Rattle.history.specs.Reports.{calls-in}
+use Rattle.encoding.specs.Encoding.{calls-in}
 use Rattle.history.specs.Running.{Led}
 use Rattle.history.proofs.Leading.{led-none, led-next, led-all}
 use borrow.Author.Needs.{needs}

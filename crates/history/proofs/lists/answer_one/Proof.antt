@@ -1,4 +1,4 @@
-use Rattle.history.proofs.Calling.{answered}
+use Rattle.history.proofs.Leading.{answered}
 use native.Mathlib.Omega.{arith}
 use borrow.Author.Needs.{needs}
 use Rattle.history.proofs.lists.answer_one.Statement.{statement}

@@ -2,7 +2,7 @@ use mathlib.Core.Path.{_≡_, refl, sym, ap, _∙_}
 use mathlib.Core.Bool.{Bool, true, false, not}
 use denote.Ref.{now}
 use Rattle.history.specs.Chains.{loaded}
-use Rattle.history.specs.Reports.{no-calls}
+use Rattle.encoding.specs.Encoding.{no-calls}
 use Rattle.history.proofs.Reporting.{ran-none, ran-some}
 use borrow.Author.Needs.{needs}
 use Rattle.history.proofs.lists.run.Statement.{statement}

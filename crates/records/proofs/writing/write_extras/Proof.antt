@@ -1,5 +1,4 @@
 -- The relations passed have the records of their transitions one behind the other; after the last turn those are all of them.
-use borrow.Author.Needs.{needs}
 use Prim.Native.Nat.{ℕ, _+_, _-_, _/_, _≤_}
 use native.Mathlib.Omega.{arith}
 use mathlib.Core.Path.{_≡_, refl, sym, ap, _∙_}

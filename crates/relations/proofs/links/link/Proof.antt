@@ -1,5 +1,4 @@
 -- The word of the first end takes the second; of an exclusion the word of the second takes the first too.
-use native.Mathlib.Omega.{arith}
 use Rattle.relations.specs.Links.{ends}
 use Rattle.relations.proofs.Linking.{add, joined, linked-plain, linked-exclusion}
 use borrow.Author.Needs.{needs}
