@@ -8,7 +8,7 @@ use mathlib.Core.List.{List, [], _∷_, _++_, map}
 use lib.Dec.{eqb, T}
 use lib.ListN.{length, drop, set, replicate}
 use Rattle.model.specs.Sets.{bit, number, all-below, any, all, concat-map, range, equal-lists}
-use Rattle.model.specs.Relations.{Net, size, excludes, causes, implies, requires, suggests, same, has-zero, misfit, repeats-after, matches, related, excluded}
+use Rattle.model.specs.Relations.{Net, Relation, size, excludes, causes, implies, requires, suggests, same, has-zero, misfit, repeats-after, matches, related, excluded}
 use Rattle.model.specs.Transitions.{Role, activates, deactivates, forces, drops, declines, Transition, asks-on, asks-off, act, deac, forced, drop-of, decline-of, extra, context-transitions, extra-transitions, transitions-of}
 use Rattle.model.specs.Machine.{Request, Event, fresh, after, log, standing, extend-by, history, step-of, activation, deactivation, initial-marking, concluded, effect, commit, make-request, undo-from, settle, reply, tally-after, respond, reading, board-at}
 use Rattle.model.specs.Image.{edition-1, image, records, trailer, trailer-bytes, trailer-of, compose, load, transition-count, set-bytes, record-bytes, relation-bytes, bad-sizes, bad-layout, net-of, records-of, other-records}
@@ -33,6 +33,8 @@ line v k j m = record { verdict = v; firings = k; forced = j; counts = m }
 pub data Case : Type 0 where
   -- calls on a fresh net, with a line for each
   run : Net → List Call → List Line → Case
+  -- the same, where the net's first two relations may stand in either order
+  run-either : (caps : List ℕ) → (r s : Relation) → (more : List Relation) → List Call → List Line → Case
   -- calls on a fresh net, with each one's verdict
   verdicts : Net → List Call → List Verdict → Case
   -- calls on a fresh net, and the three totals after them
@@ -78,15 +80,17 @@ abbrev forced-in-vain : Net
 forced-in-vain = record { caps = 1 ∷ 1 ∷ 1 ∷ []; rels = relation requires 0 2 ∷ relation implies 1 2 ∷ relation implies 1 0 ∷ [] }
 
 -- 0 implies 1, which 2 excludes and suggests: where 2 is on, what 0 asks for is declined
-abbrev declined-need : Net
-declined-need = record { caps = 1 ∷ 1 ∷ 1 ∷ []; rels = relation implies 0 1 ∷ relation excludes 1 2 ∷ relation suggests 2 1 ∷ [] }
+abbrev declined-implication : Net
+declined-implication = record { caps = 1 ∷ 1 ∷ 1 ∷ []; rels = relation implies 0 1 ∷ relation excludes 1 2 ∷ relation suggests 2 1 ∷ [] }
 
 -- 0 causes 1, which implies 2 and causes 4; 3 excludes 2 and suggests 2 and 4, in the order given.
 abbrev declined-order : (first second : ℕ) → Net
 declined-order x y =
     record {
       caps = 1 ∷ 1 ∷ 1 ∷ 1 ∷ 1 ∷ [];
-      rels = relation causes 0 1 ∷ relation suggests 3 x ∷ relation suggests 3 y ∷ relation implies 1 2 ∷ relation excludes 2 3 ∷ relation causes 1 4 ∷ [];
+      rels =
+          relation causes 0 1 ∷ relation suggests 3 x ∷ relation suggests 3 y ∷ relation implies 1 2 ∷ relation excludes 2 3
+          ∷ relation causes 1 4 ∷ [];
     }
 
 -- the bytes of an exclusion of 0 and 1, and of each other kind in both directions
@@ -372,15 +376,15 @@ cases =
     (Activate 1 ∷ []) (line Granted 5 0 (2 ∷ 2 ∷ []) ∷ [])
     -- 15: what an implication asked for is declined, so the source of the implication is forced off again; nothing of it is kept, it
     -- opens nothing and counts as refused
-    ∷ run declined-need (Activate 2 ∷ Activate 0 ∷ Undo ∷ Activate 0 ∷ [])
+    ∷ run declined-implication (Activate 2 ∷ Activate 0 ∷ Undo ∷ Activate 0 ∷ [])
     (line Granted 2 0 (0 ∷ 0 ∷ 1 ∷ [])
     ∷ line (Refused 15) 3 1 (0 ∷ 0 ∷ 1 ∷ [])
     ∷ line Granted 0 0 (0 ∷ 0 ∷ 0 ∷ [])
     ∷ line Granted 2 0 (1 ∷ 1 ∷ 0 ∷ [])
     ∷ [])
-    ∷ fires declined-need (Activate 2 ∷ []) (activation 0) (activates ∷ declines ∷ forces ∷ [])
-    ∷ totals declined-need (Activate 2 ∷ Activate 0 ∷ Undo ∷ Activate 0 ∷ []) 2 1 1
-    ∷ leaves-history declined-need (Activate 2 ∷ Activate 0 ∷ Undo ∷ Activate 0 ∷ []) (0 ∷ [])
+    ∷ fires declined-implication (Activate 2 ∷ []) (activation 0) (activates ∷ declines ∷ forces ∷ [])
+    ∷ totals declined-implication (Activate 2 ∷ Activate 0 ∷ Undo ∷ Activate 0 ∷ []) 2 1 1
+    ∷ leaves-history declined-implication (Activate 2 ∷ Activate 0 ∷ Undo ∷ Activate 0 ∷ []) (0 ∷ [])
     -- what such a request brought along goes with it: 3, which 0 suggests, was on when the step ended
     ∷ run
     (record {
@@ -390,7 +394,7 @@ cases =
     (Activate 2 ∷ Activate 0 ∷ [])
     (line Granted 2 0 (0 ∷ 0 ∷ 1 ∷ 0 ∷ []) ∷ line (Refused 15) 4 1 (0 ∷ 0 ∷ 1 ∷ 0 ∷ []) ∷ [])
     -- the request's own token can be declined too, with the count where it was
-    ∷ run declined-need (Activate 2 ∷ Activate 1 ∷ []) (line Granted 2 0 (0 ∷ 0 ∷ 1 ∷ []) ∷ line (Refused 15) 1 0 (0 ∷ 0 ∷ 1 ∷ []) ∷ [])
+    ∷ run declined-implication (Activate 2 ∷ Activate 1 ∷ []) (line Granted 2 0 (0 ∷ 0 ∷ 1 ∷ []) ∷ line (Refused 15) 1 0 (0 ∷ 0 ∷ 1 ∷ []) ∷ [])
     ∷ run (record { caps = 2 ∷ 1 ∷ []; rels = relation suggests 0 1 ∷ [] }) (Activate 1 ∷ Activate 1 ∷ [])
     (line Granted 1 0 (0 ∷ 1 ∷ []) ∷ line (Refused 15) 1 0 (0 ∷ 1 ∷ []) ∷ [])
     -- Where act of the requested context fired, its count can still end where it was, or lower.
@@ -441,7 +445,7 @@ cases =
     (Activate 2 ∷ Activate 0 ∷ [])
     (line Granted 2 0 (0 ∷ 0 ∷ 1 ∷ 0 ∷ []) ∷ line (Refused 12) 3 1 (0 ∷ 0 ∷ 1 ∷ 0 ∷ []) ∷ [])
     -- a deactivation ends with its context lower, and never meets 15
-    ∷ verdicts declined-need (Activate 2 ∷ Deactivate 2 ∷ Activate 0 ∷ Deactivate 1 ∷ []) (Granted ∷ Granted ∷ Granted ∷ Granted ∷ [])
+    ∷ verdicts declined-implication (Activate 2 ∷ Deactivate 2 ∷ Activate 0 ∷ Deactivate 1 ∷ []) (Granted ∷ Granted ∷ Granted ∷ Granted ∷ [])
     -- a suggestion and an implication between the same two contexts, in both orders: the arcs are one, the transitions two
     ∷ rows (record { caps = 1 ∷ 1 ∷ []; rels = relation suggests 0 1 ∷ relation implies 0 1 ∷ [] })
     ((2 ∷ 0 ∷ 1 ∷ 0 ∷ 1 ∷ 2 ∷ 0 ∷ 0 ∷ 0 ∷ [])
@@ -459,14 +463,7 @@ cases =
     ∷ (2 ∷ 1 ∷ 0 ∷ 0 ∷ 0 ∷ 0 ∷ 0 ∷ 2 ∷ 2 ∷ [])
     ∷ (1 ∷ 0 ∷ 2 ∷ 0 ∷ 0 ∷ 0 ∷ 0 ∷ 0 ∷ 0 ∷ [])
     ∷ [])
-    ∷ run (record { caps = 1 ∷ 1 ∷ 1 ∷ []; rels = relation suggests 0 1 ∷ relation implies 0 1 ∷ relation excludes 1 2 ∷ [] })
-    (Activate 0 ∷ Deactivate 0 ∷ Activate 2 ∷ Activate 0 ∷ [])
-    (line Granted 2 0 (1 ∷ 1 ∷ 0 ∷ [])
-    ∷ line Granted 2 0 (0 ∷ 0 ∷ 0 ∷ [])
-    ∷ line Granted 1 0 (0 ∷ 0 ∷ 1 ∷ [])
-    ∷ line (Refused 15) 3 1 (0 ∷ 0 ∷ 1 ∷ [])
-    ∷ [])
-    ∷ run (record { caps = 1 ∷ 1 ∷ 1 ∷ []; rels = relation implies 0 1 ∷ relation suggests 0 1 ∷ relation excludes 1 2 ∷ [] })
+    ∷ run-either (1 ∷ 1 ∷ 1 ∷ []) (relation suggests 0 1) (relation implies 0 1) (relation excludes 1 2 ∷ [])
     (Activate 0 ∷ Deactivate 0 ∷ Activate 2 ∷ Activate 0 ∷ [])
     (line Granted 2 0 (1 ∷ 1 ∷ 0 ∷ [])
     ∷ line Granted 2 0 (0 ∷ 0 ∷ 0 ∷ [])
@@ -508,7 +505,7 @@ cases =
     (line Granted 2 0 (0 ∷ 1 ∷ 1 ∷ [])
     ∷ line Granted 1 0 (1 ∷ 1 ∷ 1 ∷ [])
     ∷ [])
-    -- a suggestion beside each other kind: the same ends, and the opposite ones
+    -- a suggestion beside each other kind, between the same ends and the opposite ones, in either order
     ∷ rows
     (record {
       caps = 1 ∷ 1 ∷ 1 ∷ [];
@@ -539,11 +536,7 @@ cases =
     ∷ line Granted 2 0 (1 ∷ 1 ∷ 1 ∷ [])
     ∷ line Granted 3 1 (0 ∷ 0 ∷ 0 ∷ [])
     ∷ [])
-    ∷ run
-    (record {
-      caps = 1 ∷ 2 ∷ [];
-      rels = relation suggests 0 1 ∷ relation requires 0 1 ∷ [];
-    })
+    ∷ run-either (1 ∷ 2 ∷ []) (relation suggests 0 1) (relation requires 0 1) []
     (Activate 0 ∷ Activate 1 ∷ Activate 0 ∷ Deactivate 1 ∷ Deactivate 1 ∷ [])
     (line (Refused 12) 0 0 (0 ∷ 0 ∷ [])
     ∷ line Granted 1 0 (0 ∷ 1 ∷ [])
@@ -551,60 +544,17 @@ cases =
     ∷ line Granted 1 0 (1 ∷ 1 ∷ [])
     ∷ line Granted 2 1 (0 ∷ 0 ∷ [])
     ∷ [])
-    ∷ run
-    (record {
-      caps = 1 ∷ 2 ∷ [];
-      rels = relation requires 0 1 ∷ relation suggests 0 1 ∷ [];
-    })
-    (Activate 1 ∷ Activate 0 ∷ Deactivate 1 ∷ Deactivate 1 ∷ [])
-    (line Granted 1 0 (0 ∷ 1 ∷ [])
-    ∷ line Granted 2 0 (1 ∷ 2 ∷ [])
-    ∷ line Granted 1 0 (1 ∷ 1 ∷ [])
-    ∷ line Granted 2 1 (0 ∷ 0 ∷ [])
-    ∷ [])
-    ∷ run (record { caps = 1 ∷ 1 ∷ []; rels = relation suggests 0 1 ∷ relation requires 1 0 ∷ [] }) (Activate 1 ∷ Activate 0 ∷ Deactivate 0 ∷ [])
-    (line (Refused 15) 1 0 (0 ∷ 0 ∷ [])
-    ∷ line Granted 2 0 (1 ∷ 1 ∷ [])
-    ∷ line Granted 2 1 (0 ∷ 0 ∷ [])
-    ∷ [])
-    ∷ run (record { caps = 1 ∷ 1 ∷ []; rels = relation requires 1 0 ∷ relation suggests 0 1 ∷ [] }) (Activate 1 ∷ Activate 0 ∷ Deactivate 0 ∷ [])
-    (line (Refused 15) 1 0 (0 ∷ 0 ∷ [])
-    ∷ line Granted 2 0 (1 ∷ 1 ∷ [])
-    ∷ line Granted 2 1 (0 ∷ 0 ∷ [])
-    ∷ [])
-    ∷ run (record { caps = 3 ∷ 1 ∷ []; rels = relation suggests 0 1 ∷ relation implies 1 0 ∷ [] }) (Activate 0 ∷ Deactivate 0 ∷ Deactivate 0 ∷ [])
-    (line Granted 4 0 (2 ∷ 1 ∷ [])
-    ∷ line Granted 1 0 (1 ∷ 1 ∷ [])
-    ∷ line Granted 2 1 (0 ∷ 0 ∷ [])
-    ∷ [])
-    ∷ run (record { caps = 3 ∷ 1 ∷ []; rels = relation implies 1 0 ∷ relation suggests 0 1 ∷ [] }) (Activate 0 ∷ Deactivate 0 ∷ Deactivate 0 ∷ [])
-    (line Granted 4 0 (2 ∷ 1 ∷ [])
-    ∷ line Granted 1 0 (1 ∷ 1 ∷ [])
-    ∷ line Granted 2 1 (0 ∷ 0 ∷ [])
-    ∷ [])
-    ∷ run
-    (record {
-      caps = 1 ∷ 1 ∷ [];
-      rels = relation excludes 0 1 ∷ relation suggests 0 1 ∷ [];
-    })
-    (Activate 0 ∷ Deactivate 0 ∷ Activate 1 ∷ Activate 0 ∷ [])
+    ∷ run-either (1 ∷ 1 ∷ []) (relation suggests 0 1) (relation requires 1 0) [] (Activate 1 ∷ Activate 0 ∷ Deactivate 0 ∷ [])
+    (line (Refused 15) 1 0 (0 ∷ 0 ∷ []) ∷ line Granted 2 0 (1 ∷ 1 ∷ []) ∷ line Granted 2 1 (0 ∷ 0 ∷ []) ∷ [])
+    ∷ run-either (3 ∷ 1 ∷ []) (relation suggests 0 1) (relation implies 1 0) [] (Activate 0 ∷ Deactivate 0 ∷ Deactivate 0 ∷ [])
+    (line Granted 4 0 (2 ∷ 1 ∷ []) ∷ line Granted 1 0 (1 ∷ 1 ∷ []) ∷ line Granted 2 1 (0 ∷ 0 ∷ []) ∷ [])
+    ∷ run-either (1 ∷ 1 ∷ []) (relation suggests 0 1) (relation excludes 0 1) [] (Activate 0 ∷ Deactivate 0 ∷ Activate 1 ∷ Activate 0 ∷ [])
     (line Granted 2 0 (1 ∷ 0 ∷ [])
     ∷ line Granted 1 0 (0 ∷ 0 ∷ [])
     ∷ line Granted 1 0 (0 ∷ 1 ∷ [])
     ∷ line (Refused 12) 0 0 (0 ∷ 1 ∷ [])
     ∷ [])
-    ∷ run
-    (record {
-      caps = 1 ∷ 1 ∷ [];
-      rels = relation suggests 0 1 ∷ relation excludes 0 1 ∷ [];
-    })
-    (Activate 0 ∷ Deactivate 0 ∷ Activate 1 ∷ Activate 0 ∷ [])
-    (line Granted 2 0 (1 ∷ 0 ∷ [])
-    ∷ line Granted 1 0 (0 ∷ 0 ∷ [])
-    ∷ line Granted 1 0 (0 ∷ 1 ∷ [])
-    ∷ line (Refused 12) 0 0 (0 ∷ 1 ∷ [])
-    ∷ [])
-    ∷ run (record { caps = 1 ∷ 1 ∷ 1 ∷ []; rels = relation causes 0 1 ∷ relation suggests 0 1 ∷ relation excludes 1 2 ∷ [] })
+    ∷ run-either (1 ∷ 1 ∷ 1 ∷ []) (relation suggests 0 1) (relation causes 0 1) (relation excludes 1 2 ∷ [])
     (Activate 0 ∷ Deactivate 1 ∷ Deactivate 0 ∷ Activate 2 ∷ Activate 0 ∷ [])
     (line Granted 2 0 (1 ∷ 1 ∷ 0 ∷ [])
     ∷ line Granted 1 0 (1 ∷ 0 ∷ 0 ∷ [])
@@ -618,7 +568,9 @@ cases =
     ∷ run
     (record {
       caps = 1 ∷ 1 ∷ 1 ∷ 1 ∷ 1 ∷ [];
-      rels = relation causes 0 1 ∷ relation suggests 3 2 ∷ relation suggests 1 4 ∷ relation implies 1 2 ∷ relation excludes 1 4 ∷ relation excludes 2 3 ∷ [];
+      rels =
+          relation causes 0 1 ∷ relation suggests 3 2 ∷ relation suggests 1 4 ∷ relation implies 1 2 ∷ relation excludes 1 4
+          ∷ relation excludes 2 3 ∷ [];
     })
     (Activate 3 ∷ Activate 0 ∷ [])
     (line Granted 2 0 (0 ∷ 0 ∷ 0 ∷ 1 ∷ 0 ∷ []) ∷ line Granted 5 1 (1 ∷ 0 ∷ 0 ∷ 1 ∷ 1 ∷ []) ∷ [])
@@ -646,7 +598,7 @@ cases =
     ∷ composes (3 ∷ 3 ∷ []) all-kinds 625 Granted
     ∷ composes (3 ∷ 3 ∷ []) all-kinds 624 (Refused 8)
     -- loading one: whole, with a decline of priority 2, and with the records of another kind
-    ∷ loads (image edition-1 declined-need) Granted
+    ∷ loads (image edition-1 declined-implication) Granted
     ∷ loads (set (image edition-1 (record { caps = 3 ∷ 3 ∷ []; rels = relation suggests 0 1 ∷ [] })) 201 2) (Refused 9)
     ∷ loads (set pair-image 2 suggests) (Refused 9)
     ∷ []
@@ -694,6 +646,10 @@ whole-record (p ∷ firsts) = p ∷ concat-map (λ b. b ∷ replicate 5 0) first
 -- the definitions give what the case says
 unfoldable pub holds : Case → Bool
 holds (run net calls lines) = same-lines (size net) (log (fresh net) calls) lines
+holds (run-either caps r s more calls lines) =
+    let ordered : Relation → Relation → Bool =
+    λ p q. same-lines (length caps) (log (fresh (record { caps = caps; rels = p ∷ q ∷ more })) calls) lines in
+    ordered r s && ordered s r
 holds (verdicts net calls vs) = same-verdicts (log (fresh net) calls) vs
 holds (totals net calls granted refused undone) =
     let t = after (fresh net) calls .tally in
