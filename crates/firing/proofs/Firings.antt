@@ -1,4 +1,4 @@
--- A firing on the arrays and the words is the model's.
+-- A firing on the arrays, the words and the set of the contexts below their capacity is the model's.
 -- Assumes nothing.
 use Prim.Native.Nat.{ℕ, _+_, _-_, _≤_, _<_}
 use mathlib.Core.Bool.{Bool, true, false, cond, _&&_, _||_, not}
@@ -18,27 +18,29 @@ use Rattle.model.proofs.Masks.{number-cong}
 use Rattle.model.proofs.Tests.{and-left, and-right, and-both, imp-use, below-at}
 use Rattle.transitions.specs.Arcs.{unasked}
 use Rattle.transitions.specs.declared.Arcs.{Arcs}
-use Rattle.walk.specs.Markings.{counts-of, marking, below}
+use Rattle.walk.specs.Markings.{counts-of, marking}
 use Rattle.walk.specs.Walks.{passes-first, passes-last, passes}
+use Rattle.firing.specs.Spare.{below}
 use Rattle.firing.specs.Moves.{reading, waiting, Moved, CountsMovable, CountsMoved, TempsMovable, TempsMoved, Firable, Fired}
 use Rattle.walk.specs.declared.Marked.{Marked}
+use Rattle.firing.specs.declared.firing.CountSets.{CountSets}
 
 -- what the tests of a ready transition say
-record Passed (a : Arcs) (s : Marked) : Type 0 where
+record Passed (a : Arcs) (s : Marked) (spare : ℕ) : Type 0 where
   context : within 64 (members (a .takesContext)) (members (s .context)) ≡ true
   pr : within 64 (members (a .takesPr)) (members (s .pr)) ≡ true
   prNot : within 64 (members (a .takesNot)) (members (s .prNot)) ≡ true
-  gained : within 64 (minus (members (a .givesContext)) (members (a .takesContext))) (members (s .spare)) ≡ true
+  gained : within 64 (minus (members (a .givesContext)) (members (a .takesContext))) (members spare) ≡ true
 
-passed : (a : Arcs) (s : Marked) → passes a s ≡ true → Passed a s
+passed : (a : Arcs) (s : Marked) (spare : ℕ) → passes a s spare ≡ true → Passed a s spare
 unfolding passes passes-first passes-last
-passed a s e =
+passed a s spare e =
     let t₁ = within 64 (members (a .takesContext)) (members (s .context)) in
     let t₂ = within 64 (members (a .takesNot)) (members (s .prNot)) in
     let t₃ = apart 64 (members (a .inhibContext)) (members (s .context)) in
     let t₄ = within 64 (members (a .takesPr)) (members (s .pr)) in
     let t₅ = apart 64 (members (a .inhibPr)) (members (s .pr)) in
-    let t₆ = within 64 (minus (members (a .givesContext)) (members (a .takesContext))) (members (s .spare)) in
+    let t₆ = within 64 (minus (members (a .givesContext)) (members (a .takesContext))) (members spare) in
     let f = and-left (t₁ && t₂ && t₃) (t₄ && t₅ && t₆) e in
     let g = and-right (t₁ && t₂ && t₃) (t₄ && t₅ && t₆) e in
     record {
@@ -84,15 +86,15 @@ pr-word n few temps = number-cong 64 _ _ (λ j l. go j (decLt j n))
     go j (yes h) = ap (λ (x : ℕ). ltb j n && ltb 0 x) (pr-at temps j (omega arith))
     go j (no h) = ap (λ (b : Bool). b && ltb 0 (cond (ltb j 48) (getD temps j 0) 0)) (le-ltb j n (omega arith)) ∙ sym (ap (λ (b : Bool). b && ltb 0 (getD temps (0 + j) 0)) (le-ltb j n (omega arith)))
 
-module _ {n : ℕ} {capacities counts temps : List ℕ} {a : Arcs} {s : Marked} (f : Firable n capacities counts temps a s) where
+module _ {n : ℕ} {capacities counts temps : List ℕ} {a : Arcs} {s : Marked} {spare : ℕ} (f : Firable n capacities counts temps a s spare) where
   few : n ≤ 48
   few = f .stands .few
 
-  test : Passed a s
-  test = passed a s (f .ready)
+  test : Passed a s spare
+  test = passed a s spare (f .ready)
 
   -- the counts can move
-  pub counts-movable : CountsMovable n (a .takesContext) (a .givesContext) capacities counts s
+  pub counts-movable : CountsMovable n (a .takesContext) (a .givesContext) capacities counts (record { active = s .context; spare = spare })
   counts-movable =
       let h = f .stands .few in
       record {
@@ -103,10 +105,10 @@ module _ {n : ℕ} {capacities counts temps : List ℕ} {a : Arcs} {s : Marked} 
               tokens = λ j l t. ltb-true 0 (getD counts j 0) (within-at n (members (a .takesContext)) (holds-token (counts-of counts)) (test .context) (f .stands .shows .context) j (omega arith) t);
               space = λ j l g t.
                   ltb-true (getD counts j 0) (getD capacities j 0)
-                  (within-at n (minus (members (a .givesContext)) (members (a .takesContext))) (below capacities counts) (test .gained) (f .stands .shows .spare) j (omega arith) (and-both g (ap not t)));
+                  (within-at n (minus (members (a .givesContext)) (members (a .takesContext))) (below capacities counts) (test .gained) (f .spare-is) j (omega arith) (and-both g (ap not t)));
             };
-        context = f .stands .shows .context;
-        spare = f .stands .shows .spare;
+        active = f .stands .shows .context;
+        spare = f .spare-is;
       }
 
   -- then the Pr(c)
@@ -151,7 +153,7 @@ module _ {n : ℕ} {capacities counts temps : List ℕ} {a : Arcs} {s : Marked} 
               ∙ number-cong 64 (upto n (holds-token (marking counts temps .prNot))) (upto n (waiting 48 temps₁)) (λ j l. ap (λ (x : ℕ). ltb j n && ltb 0 x) (sym (second j)));
         }
 
-    module _ {counts′ temps₂ : List ℕ} {r : Marked} {pr prNot : ℕ} (mc : CountsMoved n (a .takesContext) (a .givesContext) capacities counts counts′ r)
+    module _ {counts′ temps₂ : List ℕ} {r : CountSets} {pr prNot : ℕ} (mc : CountsMoved n (a .takesContext) (a .givesContext) capacities counts counts′ r)
         (w₁ : pr ≡ number 64 (upto n (waiting 0 temps₁))) (mt : TempsMoved n 48 (a .takesNot) (a .givesNot) temps₁ temps₂ prNot) where
       first-kept : (c : ℕ) → c < 48 → getD temps₂ (0 + c) 0 ≡ getD temps₁ (0 + c) 0
       first-kept c h = elsewhere (mt .moved) (0 + c) (λ j l q. omega arith)
@@ -181,11 +183,12 @@ module _ {n : ℕ} {capacities counts temps : List ℕ} {a : Arcs} {s : Marked} 
           go j (no h) = ap (λ (b : Bool). b && waiting 0 temps₁ j) (le-ltb j n (omega arith)) ∙ sym (ap (λ (b : Bool). b && waiting 0 temps₂ j) (le-ltb j n (omega arith)))
 
       pub fired : {forced : Bool} → forced ≡ unasked a
-          → Fired n capacities counts temps a counts′ temps₂ (record { marked = record { context = r .context; pr = pr; prNot = prNot; spare = r .spare }; forced = forced })
+          → Fired n capacities counts temps a counts′ temps₂ (record { marked = record { context = r .active; pr = pr; prNot = prNot }; spare = r .spare; forced = forced })
       unfolding reading fire
       fired told =
           record {
             forced-is = told;
+            spare-is = mc .spare;
             stands =
                 record {
                   few = few;
@@ -193,10 +196,9 @@ module _ {n : ℕ} {capacities counts temps : List ℕ} {a : Arcs} {s : Marked} 
                   temps-size = mt .moved .size ∙ m₁ .size ∙ f .stands .temps-size;
                   shows =
                       record {
-                        context = mc .context;
+                        context = mc .active;
                         pr = w₁ ∙ same-word ∙ sym (pr-word n few temps₂);
                         prNot = mt .word;
-                        spare = mc .spare;
                       };
                 };
             marking-is = λ i. record { count = λ c. everywhere (mc .moved) (λ x y q. q) c i; pr = λ c. pr-is c (decLt c 48) i; prNot = λ c. not-is c i };

@@ -1,3 +1,4 @@
+pub mod Gathering
 pub mod Renewal
 pub mod Tokens
 pub mod Moving

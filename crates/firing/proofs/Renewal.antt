@@ -1,24 +1,21 @@
 -- Words that are renewed at one context, for any width.
 -- Assumes nothing.
-use Prim.Native.Nat.{ℕ, suc, _+_, _-_, _*_, _^_, _<_, _≤_}
-use native.Mathlib.Nat.{add-zero, zero-add}
+use Prim.Native.Nat.{ℕ, _<_}
 use mathlib.Core.Bool.{Bool, true, false, cond, _&&_, _||_, not}
-use mathlib.Core.Path.{_≡_, refl, sym, ap, ap₂, _∙_}
+use mathlib.Core.Path.{_≡_, refl, sym, ap, _∙_}
 use mathlib.Core.List.{List}
 use native.Mathlib.Decide.{ℕ-discrete}
-use native.Mathlib.Omega.{arith}
-use borrow.Author.Tests.{lt-ltb, le-ltb, eq-eqb, ne-eqb}
+use borrow.Author.Tests.{lt-ltb, eq-eqb, ne-eqb}
 use lib.Dec.{eqb, ltb}
 use lib.ListN.{length, getD, set}
-use lib.Pow.{pow-mono}
 use lib.Seq.{getD-set-same, getD-set-other}
 use Rattle.sets.specs.Sets.{members, insert, remove, upto}
-use Rattle.sets.proofs.Laws.{contained, zero-holds, number-narrow}
-use Rattle.model.specs.Sets.{Set, empty-set, bit, from, number}
+use Rattle.sets.proofs.Laws.{contained, zero-holds}
+use Rattle.model.specs.Sets.{Set, empty-set, number}
 use Rattle.model.specs.Firing.{holds-token}
 use Rattle.model.specs.Machine.{zeros}
-use Rattle.model.proofs.Masks.{number-below, number-cong}
-use Rattle.walk.specs.Markings.{assigned}
+use Rattle.model.proofs.Masks.{number-cong}
+use Rattle.firing.specs.Moves.{assigned}
 use Rattle.walk.proofs.Readiness.{and-none}
 
 or-cond : (a b : Bool) → (a || b) ≡ cond b true a
@@ -58,37 +55,6 @@ shown-set w n place inj test l c v h b ha e =
     renewed w (upto n (λ j. test j (getD l (place j) 0))) (upto n (λ j. test j (getD (set l (place c) v) (place j) 0))) c (test c v) ha e
     (λ k. sym (ap (λ (x : Bool). x && test c (getD (set l (place c) v) (place c) 0)) (lt-ltb c n h) ∙ ap (test c) (getD-set-same l (place c) v 0 b)))
     (λ j k d. ap (λ (x : ℕ). ltb j n && test j x) (sym (getD-set-other l (place c) (place j) v 0 (λ q. d (inj j c q)))))
-
--- The digits of a set from c on, of those below n: none, one more below them, and all. A loop from n down to 0 makes a word so.
-pub digits-none : (n : ℕ) (f : Set) → 0 ≡ number (n - n) (from n f)
-unfolding number
-digits-none n f = let e : 0 ≡ n - n = omega arith in ap (λ (k : ℕ). number k (from n f)) e
-
-pub digits-more : (n c c′ : ℕ) (f : Set) {a r : ℕ} → c′ + 1 ≡ c → c ≤ n → a ≡ number (n - c) (from c f) → r ≡ bit (f c′) + 2 * a
-    → r ≡ number (n - c′) (from c′ f)
-unfolding number
-digits-more n c c′ f {a} h l ha e =
-    let k : suc (n - c) ≡ n - c′ = omega arith in
-    let next : number (n - c) (from c f) ≡ number (n - c) (λ j. from c′ f (suc j)) =
-    number-cong (n - c) (from c f) (λ j. from c′ f (suc j)) (λ j m. let q : c + j ≡ c′ + suc j = omega arith in ap f q) in
-    e ∙ ap₂ (λ (x y : ℕ). bit (f x) + 2 * y) (sym (add-zero c′)) (ha ∙ next) ∙ ap (λ (w : ℕ). number w (from c′ f)) k
-
-pub digits-all : (n : ℕ) (f : Set) {a : ℕ} → n ≤ 64 → a ≡ number (n - 0) (from 0 f) → a ≡ number 64 (upto n f)
-digits-all n f h e =
-    let k : n - 0 ≡ n = omega arith in
-    let w : n + (64 - n) ≡ 64 = omega arith in
-    e
-    ∙ ap (λ (x : ℕ). number x (from 0 f)) k
-    ∙ number-cong n (from 0 f) (upto n f) (λ j l. ap f (zero-add j) ∙ sym (ap (λ (b : Bool). b && f j) (lt-ltb j n l)))
-    ∙ sym (number-narrow n (64 - n) (upto n f) (λ j l. ap (λ (b : Bool). b && f j) (le-ltb j n l)))
-    ∙ ap (λ (x : ℕ). number x (upto n f)) w
-
--- the word has room for one more
-pub digits-low : (n c : ℕ) (f : Set) {a : ℕ} → n ≤ 48 → a ≡ number (n - c) (from c f) → a < 9223372036854775808
-digits-low n c f h e =
-    let q : n - c ≤ 48 = omega arith in
-    let p : 2 ^ (n - c) ≤ 2 ^ 48 = pow-mono q in
-    omega (arith, e, number-below (n - c) (from c f), p)
 
 -- no place of empty ones holds a token
 pub upto-zeros : (w n : ℕ) → 0 ≡ number w (upto n (holds-token zeros))

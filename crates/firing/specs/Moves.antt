@@ -1,10 +1,10 @@
--- What a firing does to the arrays and the words.
+-- What a firing does to the arrays, to the words and to the set of the contexts below their capacity.
 -- Assumes nothing.
 use Prim.Native.Nat.{ℕ, _+_, _<_, _≤_}
-use mathlib.Core.Bool.{true, false}
+use mathlib.Core.Bool.{Bool, true, false, cond}
 use mathlib.Core.Path.{_≡_}
 use mathlib.Core.List.{List}
-use lib.Dec.{ltb}
+use lib.Dec.{eqb, ltb}
 use lib.ListN.{length, getD}
 use Rattle.sets.specs.Sets.{members, minus, union, upto}
 use Rattle.model.specs.Sets.{Set, number}
@@ -12,10 +12,12 @@ use Rattle.model.specs.Transitions.{Transition, activates}
 use Rattle.model.specs.Firing.{holds-token, tokens-after, fire}
 use Rattle.transitions.specs.Arcs.{unasked}
 use Rattle.transitions.specs.declared.Arcs.{Arcs}
-use Rattle.walk.specs.Markings.{counts-of, marking, below, Stands, AtMost}
+use Rattle.walk.specs.Markings.{counts-of, marking, Stands, AtMost}
 use Rattle.walk.specs.Walks.{passes}
 use Rattle.walk.specs.declared.Marked.{Marked}
+use Rattle.firing.specs.Spare.{spare-word}
 use Rattle.firing.specs.declared.firing.After.{After}
+use Rattle.firing.specs.declared.firing.CountSets.{CountSets}
 
 -- the transition that the words hold, of a net of n contexts. The role has no word, and no token moves by it.
 unfoldable pub reading : ℕ → Arcs → Transition
@@ -32,6 +34,10 @@ reading n a =
       inhibContext = upto n (members (a .inhibContext));
       inhibPr = upto n (members (a .inhibPr));
     }
+
+-- a set with c in it where the test holds, and without it otherwise
+abbrev pub assigned : Set → ℕ → Bool → Set
+assigned f c test j = cond (eqb j c) test (f j)
 
 -- the contexts of which a place is taken or given, but not both
 abbrev pub changing : (takes gives : Set) → Set
@@ -53,18 +59,18 @@ pub record Moved (n : ℕ) (place : ℕ → ℕ) (takes gives : Set) (c : ℕ) (
 abbrev pub waiting : ℕ → List ℕ → Set
 waiting base temps c = ltb 0 (getD temps (base + c) 0)
 
--- what moving counts asks, and what it does
-pub record CountsMovable (n takes gives : ℕ) (capacities counts : List ℕ) (s : Marked) : Type 0 where
+-- what moving counts asks, and what it does: the two sets are those of the counts before, and then of the counts after
+pub record CountsMovable (n takes gives : ℕ) (capacities counts : List ℕ) (s : CountSets) : Type 0 where
   pub few : n ≤ 48
   pub size : length counts ≡ 48
   pub movable : Movable n (λ j. j) (members takes) (members gives) (λ j. getD capacities j 0) counts
-  pub context : s .context ≡ number 64 (upto n (holds-token (counts-of counts)))
-  pub spare : s .spare ≡ number 64 (upto n (below capacities counts))
+  pub active : s .active ≡ number 64 (upto n (holds-token (counts-of counts)))
+  pub spare : s .spare ≡ spare-word n capacities counts
 
-pub record CountsMoved (n takes gives : ℕ) (capacities counts counts′ : List ℕ) (r : Marked) : Type 0 where
+pub record CountsMoved (n takes gives : ℕ) (capacities counts counts′ : List ℕ) (r : CountSets) : Type 0 where
   pub moved : Moved n (λ j. j) (members takes) (members gives) n counts counts′
-  pub context : r .context ≡ number 64 (upto n (holds-token (counts-of counts′)))
-  pub spare : r .spare ≡ number 64 (upto n (below capacities counts′))
+  pub active : r .active ≡ number 64 (upto n (holds-token (counts-of counts′)))
+  pub spare : r .spare ≡ spare-word n capacities counts′
 
 -- the same of temporary places of one kind
 pub record TempsMovable (n base takes gives : ℕ) (temps : List ℕ) (w : ℕ) : Type 0 where
@@ -78,15 +84,18 @@ pub record TempsMoved (n base takes gives : ℕ) (temps temps′ : List ℕ) (r 
   pub moved : Moved n (λ j. base + j) (members takes) (members gives) n temps temps′
   pub word : r ≡ number 64 (upto n (waiting base temps′))
 
--- what a firing asks: a transition that the words find ready, and temporary places far from full
-pub record Firable (n : ℕ) (capacities counts temps : List ℕ) (a : Arcs) (s : Marked) : Type 0 where
-  pub stands : Stands n capacities counts temps s
-  pub ready : passes a s ≡ true
+-- what a firing asks: a transition that the words and the set of the contexts below their capacity find ready, and temporary places far
+-- from full
+pub record Firable (n : ℕ) (capacities counts temps : List ℕ) (a : Arcs) (s : Marked) (spare : ℕ) : Type 0 where
+  pub stands : Stands n counts temps s
+  pub spare-is : spare ≡ spare-word n capacities counts
+  pub ready : passes a s spare ≡ true
   pub low : AtMost 4096 (marking counts temps)
 
--- what it does: the arrays hold the marking after the model's firing, the words show it, and whether the transition was a forced one is told
--- as transitions/specs/Arcs has it (Tells)
+-- what it does: the arrays hold the marking after the model's firing, the words show it, the set is that of the contexts below their
+-- capacity in it, and whether the transition was a forced one is told as transitions/specs/Arcs has it (Tells)
 pub record Fired (n : ℕ) (capacities counts temps : List ℕ) (a : Arcs) (counts′ temps′ : List ℕ) (r : After) : Type 0 where
-  pub stands : Stands n capacities counts′ temps′ (r .marked)
+  pub stands : Stands n counts′ temps′ (r .marked)
+  pub spare-is : r .spare ≡ spare-word n capacities counts′
   pub forced-is : r .forced ≡ unasked a
   pub marking-is : marking counts′ temps′ ≡ fire (reading n a) (marking counts temps)

@@ -1,4 +1,4 @@
-// One firing: the tokens move, and the words with them.
+// One firing: the tokens move, and with them the words and the set of the contexts below their capacity.
 ghost use mathlib.Core.Path.{_≡_};
 ghost use mathlib.Core.Bool.{true, false, cond};
 ghost use Prim.Native.Nat.{_+_, _-_, _<_};
@@ -9,10 +9,18 @@ use crate::words;
 use transitions::Arcs;
 use walk::Marked;
 
-// What a firing leaves: the words of the marking after it, and whether the transition is a forced one.
+// What a firing leaves: the words of the marking after it, the contexts below their capacity in it, and whether the transition is a
+// forced one.
 pub struct After {
     pub marked: Marked,
+    pub spare: u64,
     pub forced: bool,
+}
+
+// The active contexts, and those below their capacity.
+struct CountSets {
+    active: u64,
+    spare: u64,
 }
 
 // A count with a token less, where one is taken, or with one more.
@@ -41,30 +49,33 @@ fn changes(takes: u64, gives: u64) -> u64
     )
 }
 
-// Moves the tokens of the contexts, and keeps the words up to date at those that change. The caller's transition is ready, so
-// that each count that falls was above 0, and each that rises was below its capacity.
+// Moves the tokens of the contexts, and renews the two sets at those that change; so, once a firing, it is worked out which contexts stand
+// below their capacity. The caller's transition is ready: each count that falls was above 0, and each that rises was below its capacity.
 fn move_counts(
     counts: &mut [u8; 48],
     capacities: &[u8; 48],
     n: usize,
     takes: u64,
     gives: u64,
-    start: Marked,
-) -> Marked
-    requires { ⌜ CountsMovable n takes gives (now capacities) (now counts) start ⌝ }
+    before: CountSets,
+) -> CountSets
+    requires { ⌜ CountsMovable n takes gives (now capacities) (now counts) before ⌝ }
     ensures { λ r. ⌜ CountsMoved n takes gives (now (capacities .entry)) (now (counts .entry)) (now (counts .exit)) r ⌝ }
 {
     let moving = changes(takes, gives);
-    let mut marks = start;
+    let mut active = before.active;
+    let mut spare = before.spare;
     let mut c = sets::member_from(moving, 0);
     while c < n {
         let capacity = words::byte(capacities, c);
-        let count = shift_count(counts[c], sets::member(takes, c));
+        let was = counts[c];
+        let count = shift_count(was, sets::member(takes, c));
         counts[c] = count;
-        marks = words::recount(marks, c, count, capacity);
+        active = words::assign(active, c, 0 < count);
+        spare = words::assign(spare, c, count < capacity);
         c = sets::member_from(moving, c + 1);
     }
-    marks
+    CountSets { active, spare }
 }
 
 // The same on the temporary places of one kind, which stand from base on, with their word.
@@ -92,29 +103,41 @@ fn move_temps(
     word
 }
 
-// Fires a transition, and tells whether it is a forced one. The caller has found it ready by these words, and no temporary place holds
-// more than 4,096 tokens.
+// Fires a transition, and tells whether it is a forced one. The caller has found it ready by these words and this set, and no temporary place
+// holds more than 4,096 tokens.
 pub fn fire(
     a: Arcs,
     marks: Marked,
+    spare: u64,
     n: usize,
     capacities: &[u8; 48],
     counts: &mut [u8; 48],
     temps: &mut [u16; 96],
 ) -> After
-    requires { ⌜ Firable n (now capacities) (now counts) (now temps) a marks ⌝ }
+    requires { ⌜ Firable n (now capacities) (now counts) (now temps) a marks spare ⌝ }
     ensures { λ r. ⌜ Fired n (now (capacities .entry)) (now (counts .entry)) (now (temps .entry)) a (now (counts .exit)) (now (temps .exit)) r ⌝ }
 {
-    let moved = move_counts(counts, capacities, n, a.takesContext, a.givesContext, marks);
+    let before = CountSets {
+        active: marks.context,
+        spare,
+    };
+    let moved = move_counts(
+        counts,
+        capacities,
+        n,
+        a.takesContext,
+        a.givesContext,
+        before,
+    );
     let pr = move_temps(temps, 0, n, a.takesPr, a.givesPr, marks.pr);
     let prNot = move_temps(temps, 48, n, a.takesNot, a.givesNot, marks.prNot);
     After {
         marked: Marked {
-            context: moved.context,
+            context: moved.active,
             pr,
             prNot,
-            spare: moved.spare,
         },
+        spare: moved.spare,
         forced: transitions::is_forced(a),
     }
 }

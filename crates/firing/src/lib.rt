@@ -1,8 +1,9 @@
-// The words of a marking as its tokens move: at rest, with a request's token, and through one firing.
+// The sets that a step goes by as its tokens move: told from the counts where it begins, and renewed with each firing.
+mod beginning;
 mod firing;
 mod words;
 
+pub use beginning::asking;
+pub use beginning::below_capacity;
 pub use firing::After;
 pub use firing::fire;
-pub use words::asking;
-pub use words::at_rest;

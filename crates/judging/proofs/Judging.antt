@@ -12,7 +12,8 @@ use lib.ListN.{length, getD, set, replicate, length-replicate}
 use lib.Seq.{getD-set-same, getD-set-other}
 use Rattle.sets.specs.Sets.{upto}
 use Rattle.sets.proofs.Laws.{none-holds, below-narrow, below-cong}
-use Rattle.model.specs.Sets.{Set, singleton, bit, number, all-below}
+use Rattle.model.specs.Sets.{singleton, bit, number, all-below}
+use Rattle.model.proofs.Masks.{bit-lt}
 use Rattle.model.specs.Refusals.{refuse, first-refusal, no-such-context, already-off, step-limit-met, tokens-left, not-raised}
 use Rattle.model.specs.Relations.{Net, size}
 use Rattle.model.specs.Firing.{Marking, Outcome, holds-token, is-empty, clear, fire-until-quiet, step-limit}
@@ -21,12 +22,13 @@ use Rattle.model.specs.declared.Answer.{Answer}
 use Rattle.model.specs.declared.Verdict.{Verdict}
 use Rattle.model.specs.declared.Verdict.the-variants.{Granted, Refused}
 use Rattle.net.specs.Tables.{Columns}
-use Rattle.walk.specs.Markings.{counts-of, marking, below, Shows, AtMost}
+use Rattle.walk.specs.Markings.{counts-of, marking, Shows, AtMost}
 use Rattle.steps.specs.Steps.{Describes, Starts, Outcomes, Ends}
 use Rattle.judging.specs.Judges.{Judges}
 use Rattle.walk.specs.declared.Marked.{Marked}
 use Rattle.steps.specs.declared.step.Stepped.{Stepped}
 use Rattle.walk.proofs.Readiness.{and-none, all-and}
+use Rattle.firing.proofs.Gathering.{zeros-at}
 
 -- one token among 96 empty places
 module _ (p : ℕ) (h : p < 96) where
@@ -36,16 +38,11 @@ module _ (p : ℕ) (h : p < 96) where
   one-token : (i : ℕ) → getD one i 0 ≡ bit (eqb i p)
   one-token i = go (ℕ-discrete i p)
     where
-      empty : (k j : ℕ) → _≡_ {A = ℕ} (getD (replicate k 0) j 0) 0
-      empty zero j = refl
-      empty (suc k) zero = refl
-      empty (suc k) (suc j) = empty k j
-
       go : Dec (i ≡ p) → getD one i 0 ≡ bit (eqb i p)
       go (yes e) =
           ap (λ (x : ℕ). getD one x 0) e
           ∙ getD-set-same (replicate 96 0) p 1 0 (omega (arith, length-replicate {A = ℕ} 96 0)) ∙ sym (ap bit (eq-eqb i p e))
-      go (no e) = getD-set-other (replicate 96 0) p i 1 0 e ∙ empty 96 i ∙ sym (ap bit (ne-eqb i p e))
+      go (no e) = getD-set-other (replicate 96 0) p i 1 0 e ∙ zeros-at 96 i ∙ sym (ap bit (ne-eqb i p e))
 
 module _ (on : Bool) (c : ℕ) (h : c < 48) (counts : List ℕ) where
   abbrev asked : Marking
@@ -88,22 +85,18 @@ module _ (on : Bool) (c : ℕ) (h : c < 48) (counts : List ℕ) where
           one-token (48 + c) (omega arith) (48 + x) ∙ ap bit (same x (ℕ-discrete x c))
           ∙ ap (λ (b : Bool). bit (not b && eqb x c)) (sym t)
 
-bit-most : (b : Bool) → bit b ≤ 1
-bit-most true = omega arith
-bit-most false = omega arith
-
 one-most : (m : Counts) (r : Request) → AtMost 1 (initial-marking m r)
 unfolding initial-marking
-one-most m r = record { pr = λ c. bit-most (r .on && singleton (r .context) c); prNot = λ c. bit-most (not (r .on) && singleton (r .context) c) }
+one-most m r = record { pr = λ c. omega (arith, bit-lt (r .on && singleton (r .context) c)); prNot = λ c. omega (arith, bit-lt (not (r .on) && singleton (r .context) c)) }
 
 -- the arrays and words in which the step of a request begins
-module _ {n t : ℕ} {capacities counts temps : List ℕ} {s : Marked} (r : Request) where
+module _ {n t : ℕ} {counts temps : List ℕ} {s : Marked} (r : Request) where
   pub starts : n ≤ 48 → t ≤ 192 → length counts ≡ 48 → length temps ≡ 96 → marking counts temps ≡ initial-marking (counts-of counts) r
-      → Shows n (below capacities counts) (initial-marking (counts-of counts) r) s → Starts n t capacities counts temps s
+      → Shows n (initial-marking (counts-of counts) r) s → Starts n t counts temps s
   starts few short lc lt e sh =
       record {
         few = short;
-        stands = record { few = few; counts-size = lc; temps-size = lt; shows = subst (λ (m : Marking). Shows n (below capacities counts) m s) (sym e) sh };
+        stands = record { few = few; counts-size = lc; temps-size = lt; shows = subst (λ (m : Marking). Shows n m s) (sym e) sh };
         low = subst (AtMost 1) (sym e) (one-most (counts-of counts) r);
       }
 
@@ -118,9 +111,9 @@ empty-word n few f e =
     no-token zero = refl
     no-token (suc x) = ap not (lt-ltb 0 (suc x) (omega arith)) ∙ sym (ne-eqb (suc x) 0 (λ q. omega arith))
 
-clear-is : (net : Net) (n : ℕ) → n ≤ 48 → size net ≡ n → (spare : Set) (m : Marking) (s : Marked) → Shows n spare m s → (eqb (s .pr) 0 && eqb (s .prNot) 0) ≡ clear net m
+clear-is : (net : Net) (n : ℕ) → n ≤ 48 → size net ≡ n → (m : Marking) (s : Marked) → Shows n m s → (eqb (s .pr) 0 && eqb (s .prNot) 0) ≡ clear net m
 unfolding clear
-clear-is net n few e spare m s sh =
+clear-is net n few e m s sh =
     ap₂ (λ (x y : Bool). x && y) (empty-word n (omega arith) (m .pr) (sh .pr)) (empty-word n (omega arith) (m .prNot) (sh .prNot))
     ∙ all-and n (is-empty (m .pr)) (is-empty (m .prNot))
     ∙ ap (λ (k : ℕ). all-below k (λ c. is-empty (m .pr) c && is-empty (m .prNot) c)) (sym e)
@@ -185,7 +178,7 @@ module _ {net : Net} {n t : ℕ} {cols : Columns} {capacities counts temps count
   verdict-is : verdict-told e r counts counts′ ≡ verdict-due
   verdict-is =
       λ i. verdict-by (ended .quiet i)
-      ((clear-is net n (end .stands .few) (d .contexts) (below capacities counts′) (marking counts′ temps′) (e .marked) (end .stands .shows) ∙ ap (clear net) (ended .marking)) i)
+      ((clear-is net n (end .stands .few) (d .contexts) (marking counts′ temps′) (e .marked) (end .stands .shows) ∙ ap (clear net) (ended .marking)) i)
       (gains-nothing (counts-of counts) r (ended .marking i .count))
 
   effect-is : effect net (counts-of counts) r ≡ concluded (counts-of counts) o verdict-due

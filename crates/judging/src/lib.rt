@@ -117,7 +117,7 @@ pub fn judge<'a>(
     }
     let before = copied(counts);
     let mut temps = token(on, c);
-    let marks = firing::asking(firing::at_rest(n, capacities, &before), on, c);
+    let marks = firing::asking(n, counts, on, c);
     let end = run_from(
         priority,
         takesContext,

@@ -13,7 +13,7 @@ use lib.ListN.{getD}
 use Rattle.sets.specs.Sets.{members, upto}
 use Rattle.sets.proofs.Laws.{contained}
 use Rattle.model.specs.Sets.{Set, bit, number}
-use Rattle.model.specs.Relations.{Net, size, capacity}
+use Rattle.model.specs.Relations.{Net, capacity}
 use Rattle.model.specs.Transitions.{Transition, is-forced, transitions}
 use Rattle.model.specs.Firing.{Marking, below-capacity, fire, fire-until-quiet, step-limit}
 use Rattle.model.proofs.Masks.{number-cong}
@@ -25,11 +25,13 @@ use Rattle.net.specs.Tables.{Columns, row, blank}
 use Rattle.transitions.specs.Arcs.{Holds}
 use Rattle.transitions.specs.declared.Arcs.{Arcs}
 use Rattle.transitions.proofs.Telling.{forced-told}
-use Rattle.walk.specs.Markings.{marking, below, Shows, Stands, AtMost}
+use Rattle.walk.specs.Markings.{marking, Stands, AtMost}
 use Rattle.walk.specs.Walks.{passes, ready-row, Passing, Fires, Chooses}
+use Rattle.firing.specs.Spare.{below, spare-word}
 use Rattle.firing.specs.Moves.{reading, Firable, Fired}
 use Rattle.firing.specs.declared.firing.After.{After}
 use Rattle.steps.specs.Steps.{Describes, Starts, Outcomes, Ends}
+use Rattle.steps.specs.declared.step.Progress.{Progress}
 use Rattle.walk.specs.declared.Marked.{Marked}
 use Rattle.walk.specs.declared.Found.{Found}
 use Rattle.walk.specs.declared.Found.the-variants.{At, Nothing}
@@ -66,31 +68,26 @@ fire-low k t m l =
     }
 
 -- the step so far
-pub record Going (n t : ℕ) (cols : Columns) (capacities counts₀ temps₀ counts temps : List ℕ) (s : Marked) (firings forced : ℕ) : Type 0 where
-  pub few : firings ≤ 4096
-  pub fewer : forced ≤ firings
-  pub stands : Stands n capacities counts temps s
-  pub low : AtMost (firings + 1) (marking counts temps)
-  pub so-far : (net : Net) → Describes net n t cols capacities → Loops.Fired net (marking counts₀ temps₀) firings forced (marking counts temps)
+pub record Going (n t : ℕ) (cols : Columns) (capacities counts₀ temps₀ counts temps : List ℕ) (step : Progress) : Type 0 where
+  pub few : step .firings ≤ 4096
+  pub fewer : step .forced ≤ step .firings
+  pub stands : Stands n counts temps (step .marked)
+  pub spare-is : step .spare ≡ spare-word n capacities counts
+  pub low : AtMost (step .firings + 1) (marking counts temps)
+  pub so-far : (net : Net) → Describes net n t cols capacities → Loops.Fired net (marking counts₀ temps₀) (step .firings) (step .forced) (marking counts temps)
 
 module _ {n t : ℕ} {cols : Columns} {capacities counts₀ temps₀ : List ℕ} where
-  pub going-start : {s : Marked} → Starts n t capacities counts₀ temps₀ s → Going n t cols capacities counts₀ temps₀ counts₀ temps₀ s 0 0
-  going-start b = record { few = omega arith; fewer = omega arith; stands = b .stands; low = b .low; so-far = λ net d. start }
+  pub going-start : {s : Marked} → Starts n t counts₀ temps₀ s → {spare : ℕ} → spare ≡ spare-word n capacities counts₀
+      → Going n t cols capacities counts₀ temps₀ counts₀ temps₀ (record { marked = s; spare = spare; firings = 0; forced = 0 })
+  going-start b e = record { few = omega arith; fewer = omega arith; stands = b .stands; spare-is = e; low = b .low; so-far = λ net d. start }
 
-  module _ {counts temps : List ℕ} {s : Marked} {firings forced : ℕ} (g : Going n t cols capacities counts₀ temps₀ counts temps s firings forced) where
+  module _ {counts temps : List ℕ} {step : Progress} (g : Going n t cols capacities counts₀ temps₀ counts temps step) where
     -- a net's own capacities are those of the array
-    shows-net : (net : Net) → Describes net n t cols capacities → Shows n (below-capacity net (marking counts temps)) (marking counts temps) s
+    spare-of : (net : Net) → Describes net n t cols capacities → step .spare ≡ number 64 (upto n (below-capacity net (marking counts temps)))
     unfolding below-capacity
-    shows-net net d =
-        let sh = g .stands .shows in
-        record {
-          context = sh .context;
-          pr = sh .pr;
-          prNot = sh .prNot;
-          spare =
-              sh .spare
-              ∙ number-cong 64 (upto n (below capacities counts)) (upto n (λ c. ltb (getD counts c 0) (capacity net c))) (λ j l. go j (decLt j n));
-        }
+    spare-of net d =
+        g .spare-is
+        ∙ number-cong 64 (upto n (below capacities counts)) (upto n (λ c. ltb (getD counts c 0) (capacity net c))) (λ j l. go j (decLt j n))
       where
         go : (j : ℕ) → Dec (j < n) → (ltb j n && ltb (getD counts j 0) (getD capacities j 0)) ≡ (ltb j n && ltb (getD counts j 0) (capacity net j))
         go j (yes h) = ap (λ (x : ℕ). ltb j n && ltb (getD counts j 0) x) (sym (d .capacity-at j h))
@@ -98,74 +95,76 @@ module _ {n t : ℕ} {cols : Columns} {capacities counts₀ temps₀ : List ℕ}
             ap (λ (b : Bool). b && ltb (getD counts j 0) (getD capacities j 0)) (le-ltb j n (omega arith))
             ∙ sym (ap (λ (b : Bool). b && ltb (getD counts j 0) (capacity net j)) (le-ltb j n (omega arith)))
 
-    fires-in : (r : Found) → Chooses n t cols s r → (net : Net) → Describes net n t cols capacities
-        → Fires r (size net) (below-capacity net (marking counts temps)) (marking counts temps) (transitions net)
-    fires-in r ch net d =
-        subst (λ (k : ℕ). Fires r k (below-capacity net (marking counts temps)) (marking counts temps) (transitions net)) (sym (d .contexts))
-        (ch .fires net (below-capacity net (marking counts temps)) (marking counts temps) (d .contexts) (d .fits) (d .table) (shows-net net d))
+    fires-in : (r : Found) → Chooses n t cols (step .marked) (step .spare) r → (net : Net) → Describes net n t cols capacities → Fires r net (marking counts temps)
+    fires-in r ch net d = ch .fires net (marking counts temps) (d .contexts) (d .fits) (d .table) (g .stands .shows) (spare-of net d)
 
-    pub in-arrays : {i : ℕ} → Chooses n t cols s (At i) → i < 192
+    pub in-arrays : {i : ℕ} → Chooses n t cols (step .marked) (step .spare) (At i) → i < 192
     unfolding Passing
     in-arrays ch = ch .passing .0
 
     -- the transition found can fire
-    pub can-fire : {i : ℕ} → Chooses n t cols s (At i) → (firings ≡ 4096 → ⊥) → {a : Arcs} → a ≡ row cols i → Firable n capacities counts temps a s
+    pub can-fire : {i : ℕ} → Chooses n t cols (step .marked) (step .spare) (At i) → (step .firings ≡ 4096 → ⊥) → {a : Arcs} → a ≡ row cols i → Firable n capacities counts temps a (step .marked) (step .spare)
     unfolding Passing ready-row
     can-fire ch h e =
         let k = g .few in
-        let l : firings + 1 ≤ 4096 = omega arith in
+        let l : step .firings + 1 ≤ 4096 = omega arith in
         record {
           stands = g .stands;
-          ready = subst (λ (x : Arcs). passes x s ≡ true) (sym e) (ch .passing .1);
+          spare-is = g .spare-is;
+          ready = subst (λ (x : Arcs). passes x (step .marked) (step .spare) ≡ true) (sym e) (ch .passing .1);
           low = record { pr = λ c. omega (arith, g .low .pr c); prNot = λ c. omega (arith, g .low .prNot c) };
         }
 
     -- one more firing
-    pub going-on : {i : ℕ} → Chooses n t cols s (At i) → (firings ≡ 4096 → ⊥) → {a : Arcs} → a ≡ row cols i → {counts′ temps′ : List ℕ} {x : After}
-        → Fired n capacities counts temps a counts′ temps′ x → {forced′ : ℕ} → forced′ ≡ forced + bit (x .forced)
-        → Going n t cols capacities counts₀ temps₀ counts′ temps′ (x .marked) (firings + 1) forced′
+    pub going-on : {i : ℕ} → Chooses n t cols (step .marked) (step .spare) (At i) → (step .firings ≡ 4096 → ⊥) → {a : Arcs} → a ≡ row cols i → {counts′ temps′ : List ℕ} {x : After}
+        → Fired n capacities counts temps a counts′ temps′ x
+        → Going n t cols capacities counts₀ temps₀ counts′ temps′ (record { marked = x .marked; spare = x .spare; firings = step .firings + 1; forced = step .forced + bit (x .forced) })
     unfolding Fires
-    going-on {i} ch h {a} e {counts′} {temps′} {x} f {forced′} p =
+    going-on {i} ch h {a} e {counts′} {temps′} {x} f =
         record {
           few = let k = g .few in omega arith;
-          fewer = omega (arith, one-more forced firings false (x .forced) (g .fewer));
+          fewer = omega (arith, one-more (step .forced) (step .firings) false (x .forced) (g .fewer));
           stands = f .stands;
-          low = subst (AtMost (firings + 1 + 1)) (sym (f .marking-is)) (fire-low (firings + 1) (reading n a) (marking counts temps) (g .low));
+          spare-is = f .spare-is;
+          low = subst (AtMost (step .firings + 1 + 1)) (sym (f .marking-is)) (fire-low (step .firings + 1) (reading n a) (marking counts temps) (g .low));
           so-far = λ net d. further net d (fires-in (At i) ch net d);
         }
       where
-        further : (net : Net) → Describes net n t cols capacities → Fires (At i) (size net) (below-capacity net (marking counts temps)) (marking counts temps) (transitions net)
-            → Loops.Fired net (marking counts₀ temps₀) (firings + 1) forced′ (marking counts′ temps′)
+        forced′ : ℕ
+        forced′ = step .forced + bit (x .forced)
+
+        further : (net : Net) → Describes net n t cols capacities → Fires (At i) net (marking counts temps)
+            → Loops.Fired net (marking counts₀ temps₀) (step .firings + 1) forced′ (marking counts′ temps′)
         further net d fi =
             let u = getD (transitions net) i blank in
             let has : Holds a u = subst (λ (x : Arcs). Holds x u) (sym e) (d .table .at i (omega (arith, fi .0, d .table .count))) in
             let low : Bounded n u = subst (λ (k : ℕ). Bounded k u) (d .contexts) (each-getD (bounded net (d .fits)) i blank (fi .0)) in
             let same : fire u (marking counts temps) ≡ marking counts′ temps′ = sym (f .marking-is ∙ reading-fires n (g .stands .few) a u has low (marking counts temps)) in
-            let told : forced + bit (is-forced u) ≡ forced′ = sym (p ∙ ap (λ (b : Bool). forced + bit b) (f .forced-is ∙ each-getD (forced-told net (d .fits) (omega (arith, d .contexts, g .stands .few))) i blank (fi .0) a has)) in
-            subst (Loops.Fired net (marking counts₀ temps₀) (firings + 1) forced′) same
-            (subst (λ (k : ℕ). Loops.Fired net (marking counts₀ temps₀) k forced′ (fire u (marking counts temps))) (sym (add-one firings))
-            (subst (λ (j : ℕ). Loops.Fired net (marking counts₀ temps₀) (suc firings) j (fire u (marking counts temps))) told (more (g .so-far net d) u (fi .1))))
+            let told : step .forced + bit (is-forced u) ≡ forced′ = sym (ap (λ (b : Bool). step .forced + bit b) (f .forced-is ∙ each-getD (forced-told net (d .fits) (omega (arith, d .contexts, g .stands .few))) i blank (fi .0) a has)) in
+            subst (Loops.Fired net (marking counts₀ temps₀) (step .firings + 1) forced′) same
+            (subst (λ (k : ℕ). Loops.Fired net (marking counts₀ temps₀) k forced′ (fire u (marking counts temps))) (sym (add-one (step .firings)))
+            (subst (λ (j : ℕ). Loops.Fired net (marking counts₀ temps₀) (suc (step .firings)) j (fire u (marking counts temps))) told (more (g .so-far net d) u (fi .1))))
 
-    outcome : (net : Net) (quiet : Bool) → Loops.Ends net (marking counts₀ temps₀) 4096 quiet firings forced (marking counts temps)
-        → Outcomes (record { marked = s; firings = firings; forced = forced; quiet = quiet }) (marking counts temps) (fire-until-quiet net step-limit (marking counts₀ temps₀))
+    outcome : (net : Net) (quiet : Bool) → Loops.Ends net (marking counts₀ temps₀) 4096 quiet (step .firings) (step .forced) (marking counts temps)
+        → Outcomes (record { marked = step .marked; firings = step .firings; forced = step .forced; quiet = quiet }) (marking counts temps) (fire-until-quiet net step-limit (marking counts₀ temps₀))
     outcome net quiet e = record { quiet = sym (e .quiet-is); firings = sym (e .firings-are); forced = sym (e .forced-are); marking = sym (e .marking-is) }
 
     -- the ends
-    pub ends-quiet : Chooses n t cols s Nothing → Ends n t cols capacities counts₀ temps₀ counts temps (record { marked = s; firings = firings; forced = forced; quiet = true })
+    pub ends-quiet : Chooses n t cols (step .marked) (step .spare) Nothing → Ends n t cols capacities counts₀ temps₀ counts temps (record { marked = step .marked; firings = step .firings; forced = step .forced; quiet = true })
     unfolding Fires
     ends-quiet ch = record { stands = g .stands; outcome = λ net d. outcome net true (quiet net d (fires-in Nothing ch net d)) }
       where
-        quiet : (net : Net) → Describes net n t cols capacities → Fires Nothing (size net) (below-capacity net (marking counts temps)) (marking counts temps) (transitions net)
-            → Loops.Ends net (marking counts₀ temps₀) 4096 true firings forced (marking counts temps)
+        quiet : (net : Net) → Describes net n t cols capacities → Fires Nothing net (marking counts temps)
+            → Loops.Ends net (marking counts₀ temps₀) 4096 true (step .firings) (step .forced) (marking counts temps)
         quiet net d fi = loop-quiet net (marking counts₀ temps₀) (g .so-far net d) 4096 (g .few) fi
 
-    pub ends-stopped : {i : ℕ} → Chooses n t cols s (At i) → firings ≡ 4096
-        → Ends n t cols capacities counts₀ temps₀ counts temps (record { marked = s; firings = firings; forced = forced; quiet = false })
+    pub ends-stopped : {i : ℕ} → Chooses n t cols (step .marked) (step .spare) (At i) → step .firings ≡ 4096
+        → Ends n t cols capacities counts₀ temps₀ counts temps (record { marked = step .marked; firings = step .firings; forced = step .forced; quiet = false })
     unfolding Fires
     ends-stopped {i} ch e = record { stands = g .stands; outcome = λ net d. outcome net false (stopped net d (fires-in (At i) ch net d)) }
       where
-        stopped : (net : Net) → Describes net n t cols capacities → Fires (At i) (size net) (below-capacity net (marking counts temps)) (marking counts temps) (transitions net)
-            → Loops.Ends net (marking counts₀ temps₀) 4096 false firings forced (marking counts temps)
+        stopped : (net : Net) → Describes net n t cols capacities → Fires (At i) net (marking counts temps)
+            → Loops.Ends net (marking counts₀ temps₀) 4096 false (step .firings) (step .forced) (marking counts temps)
         stopped net d fi =
-            subst (λ (k : ℕ). Loops.Ends net (marking counts₀ temps₀) k false firings forced (marking counts temps)) e
+            subst (λ (k : ℕ). Loops.Ends net (marking counts₀ temps₀) k false (step .firings) (step .forced) (marking counts temps)) e
             (loop-stopped net (marking counts₀ temps₀) (g .so-far net d) (getD (transitions net) i blank) (fi .1))

@@ -21,9 +21,9 @@ pub record Describes (net : Net) (n t : ℕ) (cols : Columns) (capacities : List
   pub table : Table cols t (transitions net)
 
 -- what a step asks: a marking with at most one token on a temporary place, as a request makes it
-pub record Starts (n t : ℕ) (capacities counts temps : List ℕ) (s : Marked) : Type 0 where
+pub record Starts (n t : ℕ) (counts temps : List ℕ) (s : Marked) : Type 0 where
   pub few : t ≤ 192
-  pub stands : Stands n capacities counts temps s
+  pub stands : Stands n counts temps s
   pub low : AtMost 1 (marking counts temps)
 
 -- r is the outcome o, with this marking
@@ -35,6 +35,6 @@ pub record Outcomes (r : Stepped) (m : Marking) (o : Outcome) : Type 0 where
 
 -- how a step from these counts and temporary places ends
 pub record Ends (n t : ℕ) (cols : Columns) (capacities counts temps counts′ temps′ : List ℕ) (r : Stepped) : Type 0 where
-  pub stands : Stands n capacities counts′ temps′ (r .marked)
+  pub stands : Stands n counts′ temps′ (r .marked)
   pub outcome : (net : Net) → Describes net n t cols capacities
       → Outcomes r (marking counts′ temps′) (fire-until-quiet net step-limit (marking counts temps))

@@ -5,6 +5,7 @@ ghost use Rattle.model.specs.Sets.{bit};
 ghost use Rattle.model.specs.Firing.{step-limit};
 ghost use Rattle.net.specs.Tables.{columns};
 ghost use Rattle.steps.specs.Steps.{Starts, Ends};
+use firing::After;
 use walk::Found;
 use walk::Marked;
 
@@ -20,14 +21,50 @@ pub struct Stepped {
     pub quiet: bool,
 }
 
-// The end of a step.
-fn ended(marked: Marked, firings: usize, forced: usize, quiet: bool) -> Stepped
-    ensures { λ r. ⌜ r ≡ record { marked = marked; firings = firings; forced = forced; quiet = quiet } ⌝ }
+// A step so far: the words of its marking, the contexts below their capacity in it, the firings made, and how many of them were forced.
+struct Progress {
+    marked: Marked,
+    spare: u64,
+    firings: usize,
+    forced: usize,
+}
+
+// A step before its first firing.
+fn begun(marked: Marked, spare: u64) -> Progress
+    ensures { λ r. ⌜ r ≡ record { marked = marked; spare = spare; firings = 0; forced = 0 } ⌝ }
 {
+    Progress {
+        marked,
+        spare,
+        firings: 0,
+        forced: 0,
+    }
+}
+
+// The step with one firing more. The caller is below the step's limit.
+fn advanced(step: Progress, after: After) -> Progress
+    requires { ⌜ (step .firings < step-limit) × (step .forced < step-limit) ⌝ }
+    ensures { λ r. ⌜ r ≡ record { marked = after .marked; spare = after .spare; firings = step .firings + 1; forced = step .forced + bit (after .forced) } ⌝ }
+{
+    let marked = after.marked;
+    let forced = counted(step.forced, after.forced);
+    Progress {
+        marked,
+        spare: after.spare,
+        firings: step.firings + 1,
+        forced,
+    }
+}
+
+// The end of a step.
+fn ended(step: Progress, quiet: bool) -> Stepped
+    ensures { λ r. ⌜ r ≡ record { marked = step .marked; firings = step .firings; forced = step .forced; quiet = quiet } ⌝ }
+{
+    let marked = step.marked;
     Stepped {
         marked,
-        firings,
-        forced,
+        firings: step.firings,
+        forced: step.forced,
         quiet,
     }
 }
@@ -41,7 +78,8 @@ fn counted(forced: usize, last: bool) -> usize
 }
 
 // The step from the marking in counts and temps, which it leaves as the step does. The caller's words show that marking, and a
-// request has put the one token there that stands on a temporary place.
+// request has put the one token there that stands on a temporary place. Which contexts stand below their capacity is told from the counts
+// where the step begins, and then by each firing.
 pub fn run_from<'a>(
     priority: &'a [u8; 192],
     takesContext: &'a [u64; 192],
@@ -59,12 +97,10 @@ pub fn run_from<'a>(
     temps: &mut [u16; 96],
     start: Marked,
 ) -> Stepped
-    requires { ⌜ Starts n t (now capacities) (now counts) (now temps) start ⌝ }
+    requires { ⌜ Starts n t (now counts) (now temps) start ⌝ }
     ensures { λ r. ⌜ Ends n t (columns (now (priority .entry)) (now (takesContext .entry)) (now (takesPr .entry)) (now (takesNot .entry)) (now (givesContext .entry)) (now (givesPr .entry)) (now (givesNot .entry)) (now (inhibContext .entry)) (now (inhibPr .entry))) (now (capacities .entry)) (now (counts .entry)) (now (temps .entry)) (now (counts .exit)) (now (temps .exit)) r ⌝ }
 {
-    let mut marks = start;
-    let mut firings = 0;
-    let mut forced = 0;
+    let mut step = begun(start, firing::below_capacity(n, capacities, counts));
     loop {
         let Found::At(i) = walk::next(
             priority,
@@ -78,12 +114,13 @@ pub fn run_from<'a>(
             inhibPr,
             t,
             n,
-            marks,
+            step.marked,
+            step.spare,
         ) else {
-            return ended(marks, firings, forced, true);
+            return ended(step, true);
         };
-        if firings == STEP_LIMIT {
-            return ended(marks, firings, forced, false);
+        if step.firings == STEP_LIMIT {
+            return ended(step, false);
         }
         let a = net::entry(
             priority,
@@ -97,9 +134,7 @@ pub fn run_from<'a>(
             inhibPr,
             i,
         );
-        let after = firing::fire(a, marks, n, capacities, counts, temps);
-        marks = after.marked;
-        forced = counted(forced, after.forced);
-        firings += 1;
+        let after = firing::fire(a, step.marked, step.spare, n, capacities, counts, temps);
+        step = advanced(step, after);
     }
 }

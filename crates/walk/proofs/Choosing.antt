@@ -17,7 +17,7 @@ use Rattle.sets.proofs.Laws.{contained, same-bool}
 use Rattle.model.specs.Sets.{Set, number, _⇒_}
 use Rattle.model.specs.Relations.{Net, size, related, requires}
 use Rattle.model.specs.Transitions.{Transition, act, deac, transitions}
-use Rattle.model.specs.Firing.{Marking, holds-token, is-empty, ready-at, ready, next, first}
+use Rattle.model.specs.Firing.{Marking, holds-token, is-empty, below-capacity, ready-at, ready, next-of, first}
 use Rattle.model.specs.Claims.{Fits}
 use Rattle.model.proofs.Tests.{and-right, and-both, or-left, or-right, imp-use, six, below-at, each-getD}
 use Rattle.model.proofs.Ready.{related-ends}
@@ -65,36 +65,39 @@ module _ (n : ℕ) (spare : Set) (m : Marking) (t : Transition) (e : ready n spa
       (below-at n (ready-at spare m t) e c h) in
       (imp-use (t .takesPr c) (holds-token (m .pr) c) (q .1), imp-use (t .takesNot c) (holds-token (m .prNot) c) (q .2), imp-use (t .takesContext c) (holds-token (m .count) c) (q .0), imp-use (t .givesContext c && not (t .takesContext c)) (spare c) (q .5))
 
-module _ (net : Net) (fits : Fits net) (few : size net ≤ 48) {t : ℕ} {cols : Columns} (tab : Table cols t (transitions net)) {spare : Set} {m : Marking} {s : Marked}
-    (sh : Shows (size net) spare m s) where
+module _ (net : Net) (fits : Fits net) (few : size net ≤ 48) {t : ℕ} {cols : Columns} (tab : Table cols t (transitions net)) {m : Marking} {s : Marked}
+    (sh : Shows (size net) m s) {w : ℕ} (room : w ≡ number 64 (upto (size net) (below-capacity net m))) where
   abbrev ts : List Transition
   ts = transitions net
 
   abbrev n : ℕ
   n = size net
 
+  abbrev spare : Set
+  spare = below-capacity net m
+
   abbrev ready-here : Transition → Bool
   ready-here = ready n spare m
 
-  row-ready : (i : ℕ) → i < t → ready-row cols s i ≡ ready-here (getD ts i blank)
+  row-ready : (i : ℕ) → i < t → ready-row cols s w i ≡ ready-here (getD ts i blank)
   unfolding ready-row
   row-ready i h =
-      passes-ready n (omega arith) spare m s sh (row cols i) (getD ts i blank) (tab .at i h)
+      passes-ready n (omega arith) spare m s sh room (row cols i) (getD ts i blank) (tab .at i h)
       (each-getD (bounded net fits) i blank (omega (arith, tab .count)))
 
   -- a context's places, where they hold a token, and the context itself, where it has room
   in-word : {w : ℕ} (f : Set) → w ≡ number 64 (upto n f) → (c : ℕ) → c < n → f c ≡ true → members w c ≡ true
   in-word f q c h e = contained 64 (upto n f) q c (omega arith) ∙ and-both (lt-ltb c n h) e
 
-  may-rise : (c : ℕ) → c < n → holds-token (m .pr) c ≡ true → spare c ≡ true → movable s c ≡ true
+  may-rise : (c : ℕ) → c < n → holds-token (m .pr) c ≡ true → spare c ≡ true → movable s w c ≡ true
   unfolding movable
   may-rise c h e f =
-      or-left (members (s .prNot) c && members (s .context) c) (and-both (in-word (holds-token (m .pr)) (sh .pr) c h e) (in-word spare (sh .spare) c h f))
+      or-left (members (s .prNot) c && members (s .context) c) (and-both (in-word (holds-token (m .pr)) (sh .pr) c h e) (in-word spare room c h f))
 
-  may-fall : (c : ℕ) → c < n → holds-token (m .prNot) c ≡ true → holds-token (m .count) c ≡ true → movable s c ≡ true
+  may-fall : (c : ℕ) → c < n → holds-token (m .prNot) c ≡ true → holds-token (m .count) c ≡ true → movable s w c ≡ true
   unfolding movable
   may-fall c h e f =
-      or-right (members (s .pr) c && members (s .spare) c) (and-both (in-word (holds-token (m .prNot)) (sh .prNot) c h e) (in-word (holds-token (m .count)) (sh .context) c h f))
+      or-right (members (s .pr) c && members w c) (and-both (in-word (holds-token (m .prNot)) (sh .prNot) c h e) (in-word (holds-token (m .count)) (sh .context) c h f))
 
   -- act(c) does not take the token that it gives to c: nothing requires itself
   gives-only : (c : ℕ) → (act (net .rels) c .givesContext c && not (act (net .rels) c .takesContext c)) ≡ true
@@ -109,7 +112,7 @@ module _ (net : Net) (fits : Fits net) (few : size net ≤ 48) {t : ℕ} {cols :
   record Own (c i : ℕ) : Type 0 where
     inside : i < length ts
     high : getD ts i blank .priority ≡ 2
-    able : ready-here (getD ts i blank) ≡ true → movable s c ≡ true
+    able : ready-here (getD ts i blank) ≡ true → movable s w c ≡ true
 
   act-own : (c : ℕ) → c < n → Own c (2 * c)
   unfolding act
@@ -139,12 +142,12 @@ module _ (net : Net) (fits : Fits net) (few : size net ≤ 48) {t : ℕ} {cols :
       go (no d) = let e : 2 * (i / 2) + 1 ≡ i = omega arith in subst (Own (i / 2)) e (deac-own (i / 2) (omega arith))
 
   -- the walk's tests are the model's
-  able-ready : (i : ℕ) → i < 2 * n → own-at cols s i ≡ ready-here (getD ts i blank)
+  able-ready : (i : ℕ) → i < 2 * n → own-at cols s w i ≡ ready-here (getD ts i blank)
   able-ready i h =
       let o = own i h in
       let q = row-ready i (omega (arith, o .inside, tab .count)) in
-      same-bool (own-at cols s i) (ready-here (getD ts i blank))
-      (λ e. sym q ∙ and-right (movable s (i / 2)) (ready-row cols s i) e)
+      same-bool (own-at cols s w i) (ready-here (getD ts i blank))
+      (λ e. sym q ∙ and-right (movable s w (i / 2)) (ready-row cols s w i) e)
       (λ e. and-both (o .able e) (q ∙ e))
 
   abbrev urgent-here : Transition → Bool
@@ -153,7 +156,7 @@ module _ (net : Net) (fits : Fits net) (few : size net ≤ 48) {t : ℕ} {cols :
   priorities : (p : ℕ) → p ≤ 2 → leb 2 p ≡ eqb p 2
   priorities p h = same-bool (leb 2 p) (eqb p 2) (λ e. let k = leb-true 2 p e in eq-eqb p 2 (omega arith)) (λ e. let k = eqb-true p 2 e in le-leb 2 p (omega arith))
 
-  high-urgent : (i : ℕ) → i < t → urgent-row cols s i ≡ urgent-here (getD ts i blank)
+  high-urgent : (i : ℕ) → i < t → urgent-row cols s w i ≡ urgent-here (getD ts i blank)
   high-urgent i h =
       ap₂ (λ (x y : Bool). x && y) (row-ready i h)
       (ap (leb 2) (tab .at i h .priority) ∙ priorities (getD ts i blank .priority) (each-getD (two-priorities net) i blank (omega (arith, tab .count)) .low))
@@ -162,7 +165,7 @@ module _ (net : Net) (fits : Fits net) (few : size net ≤ 48) {t : ℕ} {cols :
   not-urgent u e = ap (λ (b : Bool). b && eqb (u .priority) 2) e
 
   -- one of the contexts' own
-  pub fires-own : (i : ℕ) → Finds (At i) 0 (2 * n) (own-at cols s) → Fires (At i) n spare m ts
+  pub fires-own : (i : ℕ) → Finds (At i) 0 (2 * n) (own-at cols s w) → Fires (At i) net m
   unfolding Finds Fires
   fires-own i f =
       let h = f .1 in
@@ -174,31 +177,31 @@ module _ (net : Net) (fits : Fits net) (few : size net ≤ 48) {t : ℕ} {cols :
       )
 
   -- or, where none of these is ready, one of the others
-  module _ (f : Finds Nothing 0 (2 * n) (own-at cols s)) where
+  module _ (f : Finds Nothing 0 (2 * n) (own-at cols s w)) where
     none-own : (j : ℕ) → j < 2 * n → ready-here (getD ts j blank) ≡ false
     unfolding Finds
     none-own j h = sym (able-ready j h) ∙ f j (omega arith) h
 
-    below-urgent : (i : ℕ) → i ≤ t → ((j : ℕ) → 2 * n ≤ j → j < i → urgent-row cols s j ≡ false) → (j : ℕ) → j < i → urgent-here (getD ts j blank) ≡ false
+    below-urgent : (i : ℕ) → i ≤ t → ((j : ℕ) → 2 * n ≤ j → j < i → urgent-row cols s w j ≡ false) → (j : ℕ) → j < i → urgent-here (getD ts j blank) ≡ false
     below-urgent i b p j l = go (decLt j (2 * n))
       where
         go : Dec (j < 2 * n) → urgent-here (getD ts j blank) ≡ false
         go (yes h) = not-urgent (getD ts j blank) (none-own j h)
         go (no h) = sym (high-urgent j (omega arith)) ∙ p j (omega arith) l
 
-    berow-ready : (i : ℕ) → i ≤ t → ((j : ℕ) → 2 * n ≤ j → j < i → ready-row cols s j ≡ false) → (j : ℕ) → j < i → ready-here (getD ts j blank) ≡ false
-    berow-ready i b p j l = go (decLt j (2 * n))
+    below-ready : (i : ℕ) → i ≤ t → ((j : ℕ) → 2 * n ≤ j → j < i → ready-row cols s w j ≡ false) → (j : ℕ) → j < i → ready-here (getD ts j blank) ≡ false
+    below-ready i b p j l = go (decLt j (2 * n))
       where
         go : Dec (j < 2 * n) → ready-here (getD ts j blank) ≡ false
         go (yes h) = none-own j h
         go (no h) = sym (row-ready j (omega arith)) ∙ p j (omega arith) l
 
-    no-urgent : ((j : ℕ) → 2 * n ≤ j → j < t → urgent-row cols s j ≡ false) → next n spare m ts ≡ first ready-here ts
+    no-urgent : ((j : ℕ) → 2 * n ≤ j → j < t → urgent-row cols s w j ≡ false) → next-of net m ≡ first ready-here ts
     no-urgent p =
         next-other n spare m ts (two-priorities net)
         (none-passes urgent-here ts (λ j l. below-urgent t (omega arith) p j (omega (arith, tab .count))))
 
-    pub fires-extra : (r : Found) → Prefers r (2 * n) t (urgent-row cols s) (ready-row cols s) → Fires r n spare m ts
+    pub fires-extra : (r : Found) → Prefers r (2 * n) t (urgent-row cols s w) (ready-row cols s w) → Fires r net m
     unfolding Finds Prefers Fires
     fires-extra (At i) (inl g) =
         let h = g .1 in
@@ -207,29 +210,29 @@ module _ (net : Net) (fits : Fits net) (few : size net ≤ 48) {t : ℕ} {cols :
     fires-extra (At i) (inr (p, g)) =
         let h = g .1 in
         let k : i < length ts = omega (arith, tab .count) in
-        (k, no-urgent p ∙ lowest ready-here ts i k (sym (row-ready i h) ∙ g .2) (berow-ready i (omega arith) (g .3)))
+        (k, no-urgent p ∙ lowest ready-here ts i k (sym (row-ready i h) ∙ g .2) (below-ready i (omega arith) (g .3)))
     fires-extra Nothing g =
-        let none : (j : ℕ) → j < length ts → ready-here (getD ts j blank) ≡ false = λ j l. berow-ready t (omega arith) g j (omega (arith, tab .count)) in
+        let none : (j : ℕ) → j < length ts → ready-here (getD ts j blank) ≡ false = λ j l. below-ready t (omega arith) g j (omega (arith, tab .count)) in
         next-other n spare m ts (two-priorities net) (none-passes urgent-here ts (λ j l. not-urgent (getD ts j blank) (none j l)))
         ∙ none-passes ready-here ts none
 
 -- the same of any net that the arrays hold
-module _ (n t : ℕ) (cols : Columns) (s : Marked) (few : n ≤ 48) where
-  pub chooses-own : (i : ℕ) → Finds (At i) 0 (2 * n) (own-at cols s) → Chooses n t cols s (At i)
+module _ (n t : ℕ) (cols : Columns) (s : Marked) (w : ℕ) (few : n ≤ 48) where
+  pub chooses-own : (i : ℕ) → Finds (At i) 0 (2 * n) (own-at cols s w) → Chooses n t cols s w (At i)
   chooses-own i f =
       record {
-        passing = own-passing cols s n i few f;
-        fires = λ net spare m e fits tab sh.
-            subst (λ (k : ℕ). k ≤ 48 → Shows k spare m s → Finds (At i) 0 (2 * k) (own-at cols s) → Fires (At i) k spare m (transitions net)) e
-            (λ low shows g. fires-own net fits low tab shows i g) few sh f;
+        passing = own-passing cols s w n i few f;
+        fires = λ net m e fits tab sh room.
+            subst (λ (k : ℕ). k ≤ 48 → Shows k m s → w ≡ number 64 (upto k (below-capacity net m)) → Finds (At i) 0 (2 * k) (own-at cols s w) → Fires (At i) net m) e
+            (λ low shows holds g. fires-own net fits low tab shows holds i g) few sh room f;
       }
 
-  pub chooses-extra : t ≤ 192 → Finds Nothing 0 (2 * n) (own-at cols s) → (r : Found) → Prefers r (2 * n) t (urgent-row cols s) (ready-row cols s) → Chooses n t cols s r
+  pub chooses-extra : t ≤ 192 → Finds Nothing 0 (2 * n) (own-at cols s w) → (r : Found) → Prefers r (2 * n) t (urgent-row cols s w) (ready-row cols s w) → Chooses n t cols s w r
   chooses-extra short f r p =
       record {
-        passing = extra-passing cols s (2 * n) t r short p;
-        fires = λ net spare m e fits tab sh.
-            subst (λ (k : ℕ). k ≤ 48 → Shows k spare m s → Finds Nothing 0 (2 * k) (own-at cols s) → Prefers r (2 * k) t (urgent-row cols s) (ready-row cols s)
-            → Fires r k spare m (transitions net)) e
-            (λ low shows g q. fires-extra net fits low tab shows g r q) few sh f p;
+        passing = extra-passing cols s w (2 * n) t r short p;
+        fires = λ net m e fits tab sh room.
+            subst (λ (k : ℕ). k ≤ 48 → Shows k m s → w ≡ number 64 (upto k (below-capacity net m)) → Finds Nothing 0 (2 * k) (own-at cols s w)
+            → Prefers r (2 * k) t (urgent-row cols s w) (ready-row cols s w) → Fires r net m) e
+            (λ low shows holds g q. fires-extra net fits low tab shows holds g r q) few sh room f p;
       }

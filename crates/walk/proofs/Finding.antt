@@ -44,26 +44,26 @@ module _ (f : ℕ → Bool) (a e : ℕ) where
   finds-none i h p j l m = p j l m (omega arith)
 
 -- the two transitions of each context where one may be ready
-module _ (cols : Columns) (s : Marked) (n : ℕ) (few : n ≤ 48) {able : ℕ} (e : able ≡ number 64 (movable s)) where
+module _ (cols : Columns) (s : Marked) (spare n : ℕ) (few : n ≤ 48) {able : ℕ} (e : able ≡ number 64 (movable s spare)) where
   abbrev test : ℕ → Bool
-  test = own-at cols s
+  test = own-at cols s spare
 
-  pub own-is : (c j : ℕ) → c < 64 → j / 2 ≡ c → test j ≡ (members able c && ready-row cols s j)
+  pub own-is : (c j : ℕ) → c < 64 → j / 2 ≡ c → test j ≡ (members able c && ready-row cols s spare j)
   own-is c j h q =
-      ap (λ (x : ℕ). movable s x && ready-row cols s j) q
-      ∙ ap (λ (b : Bool). b && ready-row cols s j) (sym (contained 64 (movable s) e c h))
+      ap (λ (x : ℕ). movable s spare x && ready-row cols s spare j) q
+      ∙ ap (λ (b : Bool). b && ready-row cols s spare j) (sym (contained 64 (movable s spare) e c h))
 
   -- a context that is passed over
   skipped : (c r j : ℕ) → Least 64 (members able) c r → c ≤ j / 2 → j / 2 < r → j < 2 * n → test j ≡ false
-  skipped c r j next l k m = own-is (j / 2) j (omega arith) refl ∙ ap (λ (b : Bool). b && ready-row cols s j) (next .gap (j / 2) l k)
+  skipped c r j next l k m = own-is (j / 2) j (omega arith) refl ∙ ap (λ (b : Bool). b && ready-row cols s spare j) (next .gap (j / 2) l k)
 
   pub own-start : (r : ℕ) → Least 64 (members able) 0 r → Passed test 0 (2 * n) (2 * r)
   own-start r next j l m k = skipped 0 r j next (omega arith) (omega arith) m
 
-  pub own-fails : (c j : ℕ) → c < 64 → j / 2 ≡ c → ready-row cols s j ≡ false → test j ≡ false
+  pub own-fails : (c j : ℕ) → c < 64 → j / 2 ≡ c → ready-row cols s spare j ≡ false → test j ≡ false
   own-fails c j h q p = own-is c j h q ∙ ap (λ (b : Bool). members able c && b) p ∙ and-none (members able c)
 
-  pub own-hit : (c j : ℕ) → c < 64 → j / 2 ≡ c → members able c ≡ true → ready-row cols s j ≡ true → test j ≡ true
+  pub own-hit : (c j : ℕ) → c < 64 → j / 2 ≡ c → members able c ≡ true → ready-row cols s spare j ≡ true → test j ≡ true
   own-hit c j h q t p = own-is c j h q ∙ and-both t p
 
   pub own-more : (c r : ℕ) → c < n → Passed test 0 (2 * n) (2 * c) → test (2 * c) ≡ false → test (2 * c + 1) ≡ false → Least 64 (members able) (c + 1) r
@@ -150,26 +150,26 @@ module _ {urgent ready : ℕ → Bool} {a e : ℕ} where
     prefers-none b h = finds-none ready a e i b (λ j l m k. p .none-before j l m k (omega arith))
 
 -- whether a transition is urgent, by the two tests
-module _ (cols : Columns) (s : Marked) (i : ℕ) where
-  pub is-urgent : ready-row cols s i ≡ true → 2 ≤ getD (cols .priority) i 0 → urgent-row cols s i ≡ true
+module _ (cols : Columns) (s : Marked) (spare i : ℕ) where
+  pub is-urgent : ready-row cols s spare i ≡ true → 2 ≤ getD (cols .priority) i 0 → urgent-row cols s spare i ≡ true
   is-urgent r p = and-both r (le-leb 2 (getD (cols .priority) i 0) p)
 
-  pub low-priority : getD (cols .priority) i 0 < 2 → urgent-row cols s i ≡ false
-  low-priority p = ap (λ (b : Bool). ready-row cols s i && b) (lt-leb 2 (getD (cols .priority) i 0) p) ∙ and-none (ready-row cols s i)
+  pub low-priority : getD (cols .priority) i 0 < 2 → urgent-row cols s spare i ≡ false
+  low-priority p = ap (λ (b : Bool). ready-row cols s spare i && b) (lt-leb 2 (getD (cols .priority) i 0) p) ∙ and-none (ready-row cols s spare i)
 
-  pub not-ready : ready-row cols s i ≡ false → urgent-row cols s i ≡ false
+  pub not-ready : ready-row cols s spare i ≡ false → urgent-row cols s spare i ≡ false
   not-ready r = ap (λ (b : Bool). b && leb 2 (getD (cols .priority) i 0)) r
 
 -- what is found is ready
-module _ (cols : Columns) (s : Marked) where
-  pub own-passing : (n i : ℕ) → n ≤ 48 → Finds (At i) 0 (2 * n) (own-at cols s) → Passing (At i) cols s
+module _ (cols : Columns) (s : Marked) (spare : ℕ) where
+  pub own-passing : (n i : ℕ) → n ≤ 48 → Finds (At i) 0 (2 * n) (own-at cols s spare) → Passing (At i) cols s spare
   unfolding Finds Passing
   own-passing n i h f =
       let k = f .1 in
-      (omega arith, and-right (movable s (i / 2)) (ready-row cols s i) (f .2))
+      (omega arith, and-right (movable s spare (i / 2)) (ready-row cols s spare i) (f .2))
 
-  pub extra-passing : (a t : ℕ) (r : Found) → t ≤ 192 → Prefers r a t (urgent-row cols s) (ready-row cols s) → Passing r cols s
+  pub extra-passing : (a t : ℕ) (r : Found) → t ≤ 192 → Prefers r a t (urgent-row cols s spare) (ready-row cols s spare) → Passing r cols s spare
   unfolding Finds Prefers Passing
-  extra-passing a t (At i) h (inl f) = let k = f .1 in (omega arith, and-left (ready-row cols s i) (leb 2 (getD (cols .priority) i 0)) (f .2))
+  extra-passing a t (At i) h (inl f) = let k = f .1 in (omega arith, and-left (ready-row cols s spare i) (leb 2 (getD (cols .priority) i 0)) (f .2))
   extra-passing a t (At i) h (inr (g, f)) = let k = f .1 in (omega arith, f .2)
   extra-passing a t Nothing h f = Prim.tt

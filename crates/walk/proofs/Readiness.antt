@@ -73,23 +73,24 @@ module _ (n : ℕ) (few : n ≤ 64) where
       ∙ within-narrow n 64 (minus f g) (upto n h) few (unused n (minus f g) (λ x e. low x (and-left (f x) (not (g x)) e)))
       ∙ below-cong n (λ j. not (minus f g j) || upto n h j) (λ j. minus f g j ⇒ h j) (λ j l. ap (λ (b : Bool). not (minus f g j) || (b && h j)) (lt-ltb j n l))
 
-  -- the words of a transition and of a marking tell whether it is ready
-  pub passes-ready : (spare : Set) (m : Marking) (s : Marked) → Shows n spare m s → (a : Arcs) (t : Transition) → Holds a t → Bounded n t → passes a s ≡ ready n spare m t
+  -- the words of a transition and of a marking, and the set of the contexts with room, tell whether it is ready
+  pub passes-ready : (spare : Set) (m : Marking) (s : Marked) → Shows n m s → {w : ℕ} → w ≡ number 64 (upto n spare) → (a : Arcs) (t : Transition) → Holds a t → Bounded n t
+      → passes a s w ≡ ready n spare m t
   unfolding passes passes-first passes-last ready ready-at
-  passes-ready spare m s sh a t has b =
+  passes-ready spare m s sh {w} room a t has b =
       let e₁ = subset-is (t .takesContext) (holds-token (m .count)) (b .takesContext) (has .takesContext) (sh .context) in
       let e₂ = subset-is (t .takesPr) (holds-token (m .pr)) (b .takesPr) (has .takesPr) (sh .pr) in
       let e₃ = subset-is (t .takesNot) (holds-token (m .prNot)) (b .takesNot) (has .takesNot) (sh .prNot) in
       let e₄ = apart-is (t .inhibContext) (m .count) (b .inhibContext) (has .inhibContext) (sh .context) in
       let e₅ = apart-is (t .inhibPr) (m .pr) (b .inhibPr) (has .inhibPr) (sh .pr) in
-      let e₆ = gained-is (t .givesContext) (t .takesContext) spare (b .givesContext) (has .givesContext) (has .takesContext) (sh .spare) in
+      let e₆ = gained-is (t .givesContext) (t .takesContext) spare (b .givesContext) (has .givesContext) (has .takesContext) room in
       let p₁ : Set = λ c. t .takesContext c ⇒ holds-token (m .count) c in
       let p₂ : Set = λ c. t .takesPr c ⇒ holds-token (m .pr) c in
       let p₃ : Set = λ c. t .takesNot c ⇒ holds-token (m .prNot) c in
       let p₄ : Set = λ c. t .inhibContext c ⇒ is-empty (m .count) c in
       let p₅ : Set = λ c. t .inhibPr c ⇒ is-empty (m .pr) c in
       let p₆ : Set = λ c. (t .givesContext c && not (t .takesContext c)) ⇒ spare c in
-      let six : passes a s ≡ ((all-below n p₁ && all-below n p₃ && all-below n p₄) && (all-below n p₂ && all-below n p₅ && all-below n p₆)) =
+      let six : passes a s w ≡ ((all-below n p₁ && all-below n p₃ && all-below n p₄) && (all-below n p₂ && all-below n p₅ && all-below n p₆)) =
       λ i. (e₁ i && e₃ i && e₄ i) && (e₂ i && e₅ i && e₆ i) in
       six
       ∙ ap₂ (λ (x y : Bool). x && y) (all-three n p₁ p₃ p₄) (all-three n p₂ p₅ p₆)

@@ -1,13 +1,13 @@
 -- How the engine's words and arrays are read as a marking of the model.
 -- Assumes nothing.
 use Prim.Native.Nat.{ℕ, _+_, _≤_}
-use mathlib.Core.Bool.{Bool, cond}
+use mathlib.Core.Bool.{cond}
 use mathlib.Core.Path.{_≡_}
 use mathlib.Core.List.{List}
-use lib.Dec.{eqb, ltb}
+use lib.Dec.{ltb}
 use lib.ListN.{length, getD}
-use Rattle.sets.specs.Sets.{members, upto}
-use Rattle.model.specs.Sets.{Set, number}
+use Rattle.sets.specs.Sets.{upto}
+use Rattle.model.specs.Sets.{number}
 use Rattle.model.specs.Firing.{Marking, holds-token}
 use Rattle.model.specs.Machine.{Counts}
 use Rattle.walk.specs.declared.Marked.{Marked}
@@ -25,37 +25,20 @@ marking counts temps =
       prNot = λ c. getD temps (48 + c) 0;
     }
 
--- the contexts whose count is below the capacity that an array has for them
-abbrev pub below : (capacities counts : List ℕ) → Set
-below capacities counts c = ltb (getD counts c 0) (getD capacities c 0)
-
--- the words of a marking of n contexts: the places of each kind that hold a token, and the contexts of the set under, which stand
--- below their capacity
-pub record Shows (n : ℕ) (under : Set) (m : Marking) (s : Marked) : Type 0 where
+-- the words of a marking of n contexts: the places of each kind that hold a token
+pub record Shows (n : ℕ) (m : Marking) (s : Marked) : Type 0 where
   pub context : s .context ≡ number 64 (upto n (holds-token (m .count)))
   pub pr : s .pr ≡ number 64 (upto n (holds-token (m .pr)))
   pub prNot : s .prNot ≡ number 64 (upto n (holds-token (m .prNot)))
-  pub spare : s .spare ≡ number 64 (upto n under)
 
 -- the arrays of a marking of at most 48 contexts, and the words that show it
-pub record Stands (n : ℕ) (capacities counts temps : List ℕ) (s : Marked) : Type 0 where
+pub record Stands (n : ℕ) (counts temps : List ℕ) (s : Marked) : Type 0 where
   pub few : n ≤ 48
   pub counts-size : length counts ≡ 48
   pub temps-size : length temps ≡ 96
-  pub shows : Shows n (below capacities counts) (marking counts temps) s
+  pub shows : Shows n (marking counts temps) s
 
 -- no temporary place holds more than k tokens
 pub record AtMost (k : ℕ) (m : Marking) : Type 0 where
   pub pr : (c : ℕ) → m .pr c ≤ k
   pub prNot : (c : ℕ) → m .prNot c ≤ k
-
--- a set with c in it where the test holds, and without it otherwise
-abbrev pub assigned : Set → ℕ → Bool → Set
-assigned f c test j = cond (eqb j c) test (f j)
-
--- the words after the count of c alone changed
-pub record Recounted (c count capacity : ℕ) (s r : Marked) : Type 0 where
-  pub context : r .context ≡ number 64 (assigned (members (s .context)) c (ltb 0 count))
-  pub spare : r .spare ≡ number 64 (assigned (members (s .spare)) c (ltb count capacity))
-  pub pr : r .pr ≡ s .pr
-  pub prNot : r .prNot ≡ s .prNot

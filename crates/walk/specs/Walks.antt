@@ -1,18 +1,17 @@
--- Readiness on words, and what a walk over the transitions finds.
+-- Readiness by the words of a marking and the set of the contexts with room, and what a walk over the transitions finds.
 -- Assumes nothing.
 use Prim.Native.Nat.{ℕ, _/_, _<_, _≤_}
 use mathlib.Core.Bool.{Bool, true, false, _&&_}
 use mathlib.Core.Path.{_≡_}
 use mathlib.Core.Logic.{_⊎_}
-use mathlib.Core.List.{List}
 use mathlib.Core.Option.{none, some}
 use lib.Dec.{leb}
 use lib.ListN.{length, getD}
-use Rattle.sets.specs.Sets.{members, union, common, minus, within, apart}
-use Rattle.model.specs.Sets.{Set}
+use Rattle.sets.specs.Sets.{members, upto, union, common, minus, within, apart}
+use Rattle.model.specs.Sets.{Set, number}
 use Rattle.model.specs.Relations.{Net, size}
-use Rattle.model.specs.Transitions.{Transition, transitions}
-use Rattle.model.specs.Firing.{Marking, next}
+use Rattle.model.specs.Transitions.{transitions}
+use Rattle.model.specs.Firing.{Marking, below-capacity, next-of}
 use Rattle.model.specs.Claims.{Fits}
 use Rattle.net.specs.Tables.{Columns, row, blank, Table}
 use Rattle.transitions.specs.declared.Arcs.{Arcs}
@@ -31,33 +30,33 @@ passes-first takesContext takesNot inhibContext s =
 
 -- Then the others: the Pr(c) that it takes are marked, none that is marked inhibits it, and the contexts that it gives without
 -- taking them are below their capacity.
-unfoldable pub passes-last : (takesContext takesPr givesContext inhibPr : ℕ) → Marked → Bool
-passes-last takesContext takesPr givesContext inhibPr s =
+unfoldable pub passes-last : (takesContext takesPr givesContext inhibPr : ℕ) → Marked → (spare : ℕ) → Bool
+passes-last takesContext takesPr givesContext inhibPr s spare =
     within 64 (members takesPr) (members (s .pr))
     && apart 64 (members inhibPr) (members (s .pr))
-    && within 64 (minus (members givesContext) (members takesContext)) (members (s .spare))
+    && within 64 (minus (members givesContext) (members takesContext)) (members spare)
 
--- "ready", as the words tell it
-unfoldable pub passes : Arcs → Marked → Bool
-passes a s =
+-- "ready", as the words and `spare`, the set of the contexts below their capacity, tell it
+unfoldable pub passes : Arcs → Marked → (spare : ℕ) → Bool
+passes a s spare =
     passes-first (a .takesContext) (a .takesNot) (a .inhibContext) s
-    && passes-last (a .takesContext) (a .takesPr) (a .givesContext) (a .inhibPr) s
+    && passes-last (a .takesContext) (a .takesPr) (a .givesContext) (a .inhibPr) s spare
 
 -- the same of transition i of the arrays
-unfoldable pub ready-row : Columns → Marked → ℕ → Bool
-ready-row cols s i = passes (row cols i) s
+unfoldable pub ready-row : Columns → Marked → (spare : ℕ) → ℕ → Bool
+ready-row cols s spare i = passes (row cols i) s spare
 
 -- transition i is ready and has priority 2, the highest
-abbrev pub urgent-row : Columns → Marked → ℕ → Bool
-urgent-row cols s i = ready-row cols s i && leb 2 (getD (cols .priority) i 0)
+abbrev pub urgent-row : Columns → Marked → (spare : ℕ) → ℕ → Bool
+urgent-row cols s spare i = ready-row cols s spare i && leb 2 (getD (cols .priority) i 0)
 
 -- The contexts whose own transitions may be ready: c has a token on Pr(c) and stands below its capacity, or has one on Pr(¬c) and is active.
-unfoldable pub movable : Marked → Set
-movable s = union (common (members (s .pr)) (members (s .spare))) (common (members (s .prNot)) (members (s .context)))
+unfoldable pub movable : Marked → (spare : ℕ) → Set
+movable s spare = union (common (members (s .pr)) (members spare)) (common (members (s .prNot)) (members (s .context)))
 
 -- transition i is ready, and the context whose number is half of i, rounded down, is one of those
-abbrev pub own-at : Columns → Marked → ℕ → Bool
-own-at cols s i = movable s (i / 2) && ready-row cols s i
+abbrev pub own-at : Columns → Marked → (spare : ℕ) → ℕ → Bool
+own-at cols s spare i = movable s spare (i / 2) && ready-row cols s spare i
 
 -- the lowest number from a on, below e, that passes the test; or that there is none
 unfoldable pub Finds : Found → ℕ → ℕ → (ℕ → Bool) → Type 0
@@ -70,16 +69,19 @@ Prefers (At i) a e urgent ready = Finds (At i) a e urgent ⊎ (Finds Nothing a e
 Prefers Nothing a e urgent ready = Finds Nothing a e ready
 
 -- the transition found stands in the arrays and is ready
-unfoldable pub Passing : Found → Columns → Marked → Type 0
-Passing (At i) cols s = (i < 192) × (ready-row cols s i ≡ true)
-Passing Nothing cols s = Prim.Unit {0}
+unfoldable pub Passing : Found → Columns → Marked → (spare : ℕ) → Type 0
+Passing (At i) cols s spare = (i < 192) × (ready-row cols s spare i ≡ true)
+Passing Nothing cols s spare = Prim.Unit {0}
 
--- the number found is that of the transition that fires next; nothing where none is enabled
-unfoldable pub Fires : Found → ℕ → Set → Marking → List Transition → Type 0
-Fires (At i) n spare m ts = (i < length ts) × (next n spare m ts ≡ some (getD ts i blank))
-Fires Nothing n spare m ts = next n spare m ts ≡ none
+-- the number found is that of the net's transition that fires next in this marking; nothing where none is enabled
+unfoldable pub Fires : Found → Net → Marking → Type 0
+Fires (At i) net m = (i < length (transitions net)) × (next-of net m ≡ some (getD (transitions net) i blank))
+Fires Nothing net m = next-of net m ≡ none
 
--- what a walk chooses: what it finds can fire, and of a net of n contexts and t transitions it is what fires next
-pub record Chooses (n t : ℕ) (cols : Columns) (s : Marked) (r : Found) : Type 0 where
-  pub passing : Passing r cols s
-  pub fires : (net : Net) (spare : Set) (m : Marking) → size net ≡ n → Fits net → Table cols t (transitions net) → Shows n spare m s → Fires r n spare m (transitions net)
+-- What a walk chooses, by a marking's words and the set `spare` alone (document 02, request d): what it finds can fire; and of every net of n
+-- contexts whose relations fit it and whose t transitions stand in the arrays, whatever its capacities, it finds the machine's next
+-- transition or none, where the words are those of the marking and `spare` is the set of the contexts below their capacity in it.
+pub record Chooses (n t : ℕ) (cols : Columns) (s : Marked) (spare : ℕ) (r : Found) : Type 0 where
+  pub passing : Passing r cols s spare
+  pub fires : (net : Net) (m : Marking) → size net ≡ n → Fits net → Table cols t (transitions net) → Shows n m s → spare ≡ number 64 (upto n (below-capacity net m))
+      → Fires r net m

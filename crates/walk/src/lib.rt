@@ -3,13 +3,11 @@ mod walk;
 
 pub use walk::next;
 
-// The marked places of a net, those that hold a token: a word for each kind of place, the set of its contexts. Beside them the
-// contexts that stand below their capacity.
+// The marked places of a net, those that hold a token: a word for each kind of place, the set of its contexts.
 pub struct Marked {
     pub context: u64,
     pub pr: u64,
     pub prNot: u64,
-    pub spare: u64,
 }
 
 // What a walk over the transitions finds: the number of one, or nothing.

@@ -1,4 +1,5 @@
-// Which transition fires next. The walk goes by a marking's words: it reads no count and no capacity.
+// Which transition fires next. The walk goes by the words of a marking and the set of the contexts below their capacity: no count and
+// no capacity is within its reach.
 ghost use mathlib.Core.Path.{_≡_};
 ghost use mathlib.Core.Bool.{cond};
 ghost use Prim.Native.Nat.{_+_, _*_, _<_, _≤_};
@@ -27,12 +28,13 @@ fn passes_last(
     givesContext: u64,
     inhibPr: u64,
     marks: Marked,
+    spare: u64,
 ) -> bool
-    ensures { λ r. ⌜ r ≡ passes-last takesContext takesPr givesContext inhibPr marks ⌝ }
+    ensures { λ r. ⌜ r ≡ passes-last takesContext takesPr givesContext inhibPr marks spare ⌝ }
 {
     sets::subset(takesPr, marks.pr)
         & sets::disjoint(inhibPr, marks.pr)
-        & sets::subset(sets::difference(givesContext, takesContext), marks.spare)
+        & sets::subset(sets::difference(givesContext, takesContext), spare)
 }
 
 // Entry i of an array of words.
@@ -56,9 +58,10 @@ fn ready_at<'a>(
     inhibPr: &'a [u64; 192],
     i: usize,
     marks: Marked,
+    spare: u64,
 ) -> bool
     requires { ⌜ i < 192 ⌝ }
-    ensures { λ r. ⌜ r ≡ ready-row (columns (now (priority .entry)) (now (takesContext .entry)) (now (takesPr .entry)) (now (takesNot .entry)) (now (givesContext .entry)) (now (givesPr .entry)) (now (givesNot .entry)) (now (inhibContext .entry)) (now (inhibPr .entry))) marks i ⌝ }
+    ensures { λ r. ⌜ r ≡ ready-row (columns (now (priority .entry)) (now (takesContext .entry)) (now (takesPr .entry)) (now (takesNot .entry)) (now (givesContext .entry)) (now (givesPr .entry)) (now (givesNot .entry)) (now (inhibContext .entry)) (now (inhibPr .entry))) marks spare i ⌝ }
 {
     let takes = word(takesContext, i);
     if !passes_first(takes, word(takesNot, i), word(inhibContext, i), marks) {
@@ -70,16 +73,17 @@ fn ready_at<'a>(
         word(givesContext, i),
         word(inhibPr, i),
         marks,
+        spare,
     )
 }
 
 // The contexts whose own transitions may be ready: act(c) takes a token from Pr(c) and needs room at c, deac(c) takes one from
 // Pr(¬c) and one from c.
-fn movable(marks: Marked) -> u64
-    ensures { λ r. ⌜ r ≡ number 64 (movable marks) ⌝ }
+fn movable(marks: Marked, spare: u64) -> u64
+    ensures { λ r. ⌜ r ≡ number 64 (movable marks spare) ⌝ }
 {
     sets::union(
-        sets::intersection(marks.pr, marks.spare),
+        sets::intersection(marks.pr, spare),
         sets::intersection(marks.prNot, marks.context),
     )
 }
@@ -98,11 +102,12 @@ fn first_own<'a>(
     inhibPr: &'a [u64; 192],
     n: usize,
     marks: Marked,
+    spare: u64,
 ) -> Found
     requires { ⌜ n ≤ 48 ⌝ }
-    ensures { λ r. ⌜ Finds r 0 (2 * n) (own-at (columns (now (priority .entry)) (now (takesContext .entry)) (now (takesPr .entry)) (now (takesNot .entry)) (now (givesContext .entry)) (now (givesPr .entry)) (now (givesNot .entry)) (now (inhibContext .entry)) (now (inhibPr .entry))) marks) ⌝ }
+    ensures { λ r. ⌜ Finds r 0 (2 * n) (own-at (columns (now (priority .entry)) (now (takesContext .entry)) (now (takesPr .entry)) (now (takesNot .entry)) (now (givesContext .entry)) (now (givesPr .entry)) (now (givesNot .entry)) (now (inhibContext .entry)) (now (inhibPr .entry))) marks spare) ⌝ }
 {
-    let able = movable(marks);
+    let able = movable(marks, spare);
     let mut c = sets::member_from(able, 0);
     while c < n {
         let act = 2 * c;
@@ -118,6 +123,7 @@ fn first_own<'a>(
             inhibPr,
             act,
             marks,
+            spare,
         ) {
             return Found::At(act);
         }
@@ -134,6 +140,7 @@ fn first_own<'a>(
             inhibPr,
             deac,
             marks,
+            spare,
         ) {
             return Found::At(deac);
         }
@@ -163,9 +170,10 @@ fn first_extra<'a>(
     a: usize,
     t: usize,
     marks: Marked,
+    spare: u64,
 ) -> Found
     requires { ⌜ t ≤ 192 ⌝ }
-    ensures { λ r. ⌜ Prefers r a t (urgent-row (columns (now (priority .entry)) (now (takesContext .entry)) (now (takesPr .entry)) (now (takesNot .entry)) (now (givesContext .entry)) (now (givesPr .entry)) (now (givesNot .entry)) (now (inhibContext .entry)) (now (inhibPr .entry))) marks) (ready-row (columns (now (priority .entry)) (now (takesContext .entry)) (now (takesPr .entry)) (now (takesNot .entry)) (now (givesContext .entry)) (now (givesPr .entry)) (now (givesNot .entry)) (now (inhibContext .entry)) (now (inhibPr .entry))) marks) ⌝ }
+    ensures { λ r. ⌜ Prefers r a t (urgent-row (columns (now (priority .entry)) (now (takesContext .entry)) (now (takesPr .entry)) (now (takesNot .entry)) (now (givesContext .entry)) (now (givesPr .entry)) (now (givesNot .entry)) (now (inhibContext .entry)) (now (inhibPr .entry))) marks spare) (ready-row (columns (now (priority .entry)) (now (takesContext .entry)) (now (takesPr .entry)) (now (takesNot .entry)) (now (givesContext .entry)) (now (givesPr .entry)) (now (givesNot .entry)) (now (inhibContext .entry)) (now (inhibPr .entry))) marks spare) ⌝ }
 {
     let mut low = t;
     let mut i = a;
@@ -182,6 +190,7 @@ fn first_extra<'a>(
             inhibPr,
             i,
             marks,
+            spare,
         ) {
             if 2 <= priority[i] {
                 return Found::At(i);
@@ -196,8 +205,8 @@ fn first_extra<'a>(
     Found::Nothing
 }
 
-// The enabled transition of the lowest number, among the t of a net of n contexts. The caller has at most 48 contexts and 192
-// transitions.
+// The enabled transition of the lowest number, among the t of a net of n contexts. It gets the words of the marking and, in `spare`, the set
+// of the contexts below their capacity. The caller has at most 48 contexts and 192 transitions.
 pub fn next<'a>(
     priority: &'a [u8; 192],
     takesContext: &'a [u64; 192],
@@ -211,9 +220,10 @@ pub fn next<'a>(
     t: usize,
     n: usize,
     marks: Marked,
+    spare: u64,
 ) -> Found
     requires { ⌜ (n ≤ 48) × (t ≤ 192) ⌝ }
-    ensures { λ r. ⌜ Chooses n t (columns (now (priority .entry)) (now (takesContext .entry)) (now (takesPr .entry)) (now (takesNot .entry)) (now (givesContext .entry)) (now (givesPr .entry)) (now (givesNot .entry)) (now (inhibContext .entry)) (now (inhibPr .entry))) marks r ⌝ }
+    ensures { λ r. ⌜ Chooses n t (columns (now (priority .entry)) (now (takesContext .entry)) (now (takesPr .entry)) (now (takesNot .entry)) (now (givesContext .entry)) (now (givesPr .entry)) (now (givesNot .entry)) (now (inhibContext .entry)) (now (inhibPr .entry))) marks spare r ⌝ }
 {
     let own = first_own(
         priority,
@@ -227,6 +237,7 @@ pub fn next<'a>(
         inhibPr,
         n,
         marks,
+        spare,
     );
     match own {
         Found::At(i) => Found::At(i),
@@ -243,6 +254,7 @@ pub fn next<'a>(
             2 * n,
             t,
             marks,
+            spare,
         ),
     }
 }

@@ -8,10 +8,9 @@ use borrow.Author.Needs.{needs}
 use lib.ListN.{length}
 use Rattle.net.specs.Tables.{Columns, columns}
 use Rattle.model.specs.Machine.{Request, effect}
-use Rattle.model.specs.Claims.{at-rest}
 use Rattle.model.specs.declared.Answer.{Answer}
 use Rattle.model.specs.declared.Verdict.the-variants.{Granted}
-use Rattle.walk.specs.Markings.{counts-of, below, Shows}
+use Rattle.walk.specs.Markings.{counts-of}
 use Rattle.steps.specs.Steps.{Starts}
 use Rattle.judging.specs.Judges.{Judges}
 use Rattle.judging.proofs.Judging.{starts, verdict-at, inside-before, judges-before, judges-granted, judges-refused}
@@ -66,36 +65,29 @@ copied-requires c κs = search needs
 token-requires : tie.Need-token-requires
 token-requires c κs = omega (arith, inside (c .before .before), c .before .before .before .before .before .before .pre .0)
 
-at-rest-requires : tie.Need-at-rest-requires
-at-rest-requires c κs = search needs
-
 asking-requires : tie.Need-asking-requires
 asking-requires c κs =
-    let e = c .before .before .before .before .before in
-    omega (arith, inside e, e .before .before .before .before .pre .0)
+    let l = c .before .before .before .before in
+    (l .before .before .before .before .pre .0, inside l)
 
 -- the step can begin
 ready-to-run : (k : tie.After-asking) →
-    let b = k .before .before .before .before .before .before .before .before .before .before in
-    Starts (b .args .n) (b .args .t) (b .args .capacities .now) (b .args .counts .now) (k .before .before .before .token .result) (k .asking .result)
+    let b = k .before .before .before .before .before .before .before .before .before in
+    Starts (b .args .n) (b .args .t) (b .args .counts .now) (k .before .before .token .result) (k .asking .result)
 ready-to-run k =
-    let tk = k .before .before .before in
+    let tk = k .before .before in
     let cp = tk .before in
-    let l = cp .before .before in
-    let b = l .before .before .before .before in
-    let a = b .args in
+    let b = cp .before .before .before .before .before .before in
     let size : length (cp .copied .result) ≡ 48 = omega (arith, cp .copied .ok) in
-    starts (request b) (b .pre .0) (b .pre .1) (ap length (sym (cp .copied .ensures)) ∙ size) (omega (arith, tk .token .ok)) (tk .token .ensures (a .counts .now))
-    (k .asking .ensures (a .n) (below (a .capacities .now) (a .counts .now)) (counts-of (a .counts .now)) (inside l)
-    (subst (λ (x : List ℕ). Shows (a .n) (below (a .capacities .now) x) (at-rest (counts-of x)) (k .before .at-rest .result)) (cp .copied .ensures) (k .before .at-rest .ensures)))
+    starts (request b) (b .pre .0) (b .pre .1) (ap length (sym (cp .copied .ensures)) ∙ size) (omega (arith, tk .token .ok)) (tk .token .ensures (b .args .counts .now)) (k .asking .ensures)
 
 run-from-requires : tie.Need-run-from-requires
 run-from-requires c κs = ready-to-run (c .before .before)
 
 -- the context whose count is read before the step and after it
-within : (ru : tie.After-run-from) → ru .before .before .before .before .before .before .before .before .before .before .before .before .before .args .c < 48
+within : (ru : tie.After-run-from) → ru .before .before .before .before .before .before .before .before .before .before .before .before .args .c < 48
 within ru =
-    let l = ru .before .before .before .before .before .before .before .before .before in
+    let l = ru .before .before .before .before .before .before .before .before in
     omega (arith, inside l, l .before .before .before .before .pre .0)
 
 array-read-was : tie.Need-array-read-was
@@ -120,7 +112,7 @@ returns-2 : tie.Need-returns-2
 returns-2 c net d =
     let v = c .before .before in
     let ru = v .before .before in
-    let tk = ru .before .before .before .before .before .before in
+    let tk = ru .before .before .before .before .before in
     let l = tk .before .before .before in
     let b = l .before .before .before .before in
     judges-granted (request b) (granted l) d (tk .token .ensures (b .args .counts .now)) (ru .run-from .ensures) (tk .before .copied .ensures) (sym (c .enum-told2 .given .1) ∙ v .verdict-on .ensures)
@@ -130,7 +122,7 @@ returns-3 c net d =
     let w = c .before .before in
     let v = w .before .before in
     let ru = v .before .before in
-    let tk = ru .before .before .before .before .before .before in
+    let tk = ru .before .before .before .before .before in
     let l = tk .before .before .before in
     let b = l .before .before .before .before in
     let e = effect net (counts-of (b .args .counts .now)) (request b) in
@@ -149,7 +141,6 @@ judge-spec =
     enum-told
     copied-requires
     token-requires
-    at-rest-requires
     asking-requires
     run-from-requires
     array-read-was

@@ -11,12 +11,12 @@ use Rattle.walk.proofs.walk.first_extra.Statement.{statement}
 use Rattle.walk.proofs.walk.first_extra.Tie as tie
 
 abbrev Inv-loop : tie.InvT-loop
-Inv-loop priority takesContext takesPr takesNot givesContext givesPr givesNot inhibContext inhibPr a t s low₀ i₀ low i =
+Inv-loop priority takesContext takesPr takesNot givesContext givesPr givesNot inhibContext inhibPr a t s spare low₀ i₀ low i =
     let cols = columns priority takesContext takesPr takesNot givesContext givesPr givesNot inhibContext inhibPr in
-    (t ≤ 192) × Preferred (urgent-row cols s) (ready-row cols s) a t i low
+    (t ≤ 192) × Preferred (urgent-row cols s spare) (ready-row cols s spare) a t i low
 
 abbrev μ-loop : tie.MeasureT-loop
-μ-loop priority takesContext takesPr takesNot givesContext givesPr givesNot inhibContext inhibPr a t s low₀ i₀ low i = t - i
+μ-loop priority takesContext takesPr takesNot givesContext givesPr givesNot inhibContext inhibPr a t s spare low₀ i₀ low i = t - i
 
 abbrev cols : tie.Start Inv-loop μ-loop → Columns
 cols b =
@@ -38,7 +38,7 @@ returns c =
     let h = d .before .before .before in
     let l = h .loop in
     let b = h .before in
-    prefers-urgent (l .inv .1) (d .before .before .loop-test .taken) (is-urgent (cols b) (b .args .marks) (l .i) (sym (d .before .ready-at .ensures) ∙ d .if1 .taken) (c .if2 .taken))
+    prefers-urgent (l .inv .1) (d .before .before .loop-test .taken) (is-urgent (cols b) (b .args .marks) (b .args .spare) (l .i) (sym (d .before .ready-at .ensures) ∙ d .if1 .taken) (c .if2 .taken))
 
 lower-requires : tie.Need-lower-requires Inv-loop μ-loop
 lower-requires c κs = search needs
@@ -58,8 +58,8 @@ loop-again c =
     let s = b .args .marks in (
       l .inv .0,
       ⊎-elim
-          (λ w. preferred-low (l .inv .1) (d .before .loop-test .taken) (sym (d .ready-at .ensures) ∙ w .0 .taken) (low-priority (cols b) s (l .i) (w .2 .left)) (w .4 ∙ w .3 .ensures))
-          (λ w. let r = sym (d .ready-at .ensures) ∙ w .0 .left in rw (w .1) (preferred-skip (l .inv .1) r (not-ready (cols b) s (l .i) r)))
+          (λ w. preferred-low (l .inv .1) (d .before .loop-test .taken) (sym (d .ready-at .ensures) ∙ w .0 .taken) (low-priority (cols b) s (b .args .spare) (l .i) (w .2 .left)) (w .4 ∙ w .3 .ensures))
+          (λ w. let r = sym (d .ready-at .ensures) ∙ w .0 .left in rw (w .1) (preferred-skip (l .inv .1) r (not-ready (cols b) s (b .args .spare) (l .i) r)))
           (c .if1 .came),
     )
 

@@ -12,12 +12,12 @@ use Rattle.walk.proofs.walk.first_own.Statement.{statement}
 use Rattle.walk.proofs.walk.first_own.Tie as tie
 
 abbrev Inv-loop : tie.InvT-loop
-Inv-loop priority takesContext takesPr takesNot givesContext givesPr givesNot inhibContext inhibPr n s able c₀ c =
+Inv-loop priority takesContext takesPr takesNot givesContext givesPr givesNot inhibContext inhibPr n s spare able c₀ c =
     (n ≤ 48) × (c < 64 → members able c ≡ true)
-    × Passed (own-at (columns priority takesContext takesPr takesNot givesContext givesPr givesNot inhibContext inhibPr) s) 0 (2 * n) (2 * c)
+    × Passed (own-at (columns priority takesContext takesPr takesNot givesContext givesPr givesNot inhibContext inhibPr) s spare) 0 (2 * n) (2 * c)
 
 abbrev μ-loop : tie.MeasureT-loop
-μ-loop priority takesContext takesPr takesNot givesContext givesPr givesNot inhibContext inhibPr n s able c₀ c = n - c
+μ-loop priority takesContext takesPr takesNot givesContext givesPr givesNot inhibContext inhibPr n s spare able c₀ c = n - c
 
 abbrev cols : tie.Start Inv-loop μ-loop → Columns
 cols b =
@@ -34,7 +34,7 @@ loop-holds : tie.Need-loop-holds Inv-loop μ-loop
 loop-holds c =
     let u = c .before in
     let b = u .before in
-    (b .pre, c .member-from .ensures .hit, own-start (cols b) (b .args .marks) (b .args .n) (b .pre) (u .movable .ensures) (c .member-from .result) (c .member-from .ensures))
+    (b .pre, c .member-from .ensures .hit, own-start (cols b) (b .args .marks) (b .args .spare) (b .args .n) (b .pre) (u .movable .ensures) (c .member-from .result) (c .member-from .ensures))
 
 mul-act : tie.Need-mul-act Inv-loop μ-loop
 mul-act c = omega arith
@@ -48,7 +48,7 @@ returns c =
     let u = h .before .before in
     let b = u .before in
     let l = h .loop in
-    let hit = own-hit (cols b) (b .args .marks) (b .args .n) (l .inv .0) (u .movable .ensures) (l .c) (2 * l .c) (omega arith) (omega arith) (l .inv .1 (omega arith)) (sym (c .before .ready-at .ensures) ∙ c .if1 .taken) in
+    let hit = own-hit (cols b) (b .args .marks) (b .args .spare) (b .args .n) (l .inv .0) (u .movable .ensures) (l .c) (2 * l .c) (omega arith) (omega arith) (l .inv .1 (omega arith)) (sym (c .before .ready-at .ensures) ∙ c .if1 .taken) in
     finds-at _ 0 (2 * b .args .n) (2 * l .c) (omega arith) (omega arith) hit (l .inv .2)
 
 mul-deac : tie.Need-mul-deac Inv-loop μ-loop
@@ -63,13 +63,13 @@ ready-at-requires-2 c κs = omega arith
 -- act(c) was not ready
 not-act : (c : tie.After-ready-at2 Inv-loop μ-loop) →
     let h = c .before .before .before .before in
-    own-at (cols (h .before .before .before)) (h .before .before .before .args .marks) (2 * h .loop .c) ≡ false
+    own-at (cols (h .before .before .before)) (h .before .before .before .args .marks) (h .before .before .before .args .spare) (2 * h .loop .c) ≡ false
 not-act c =
     let h = c .before .before .before .before in
     let u = h .before .before in
     let b = u .before in
     let l = h .loop in
-    own-fails (cols b) (b .args .marks) (b .args .n) (l .inv .0) (u .movable .ensures) (l .c) (2 * l .c) (omega arith) (omega arith)
+    own-fails (cols b) (b .args .marks) (b .args .spare) (b .args .n) (l .inv .0) (u .movable .ensures) (l .c) (2 * l .c) (omega arith) (omega arith)
     (sym (c .before .before .ready-at .ensures) ∙ c .before .if1 .left)
 
 returns-2 : tie.Need-returns-2 Inv-loop μ-loop
@@ -78,7 +78,7 @@ returns-2 c =
     let u = h .before .before in
     let b = u .before in
     let l = h .loop in
-    let hit = own-hit (cols b) (b .args .marks) (b .args .n) (l .inv .0) (u .movable .ensures) (l .c) (2 * l .c + 1) (omega arith) (omega arith) (l .inv .1 (omega arith)) (sym (c .before .ready-at2 .ensures) ∙ c .if2 .taken) in
+    let hit = own-hit (cols b) (b .args .marks) (b .args .spare) (b .args .n) (l .inv .0) (u .movable .ensures) (l .c) (2 * l .c + 1) (omega arith) (omega arith) (l .inv .1 (omega arith)) (sym (c .before .ready-at2 .ensures) ∙ c .if2 .taken) in
     finds-at _ 0 (2 * b .args .n) (2 * l .c + 1) (omega arith) (omega arith) hit (passed-more _ 0 (2 * b .args .n) (2 * l .c) (l .inv .2) (not-act (c .before)))
 
 add-member-from : tie.Need-add-member-from Inv-loop μ-loop
@@ -99,8 +99,8 @@ loop-again c =
     let l = h .loop in
     let k = e .before .before .before .before .loop-test .taken in
     let few = l .inv .0 in
-    let not-deac = own-fails (cols b) (b .args .marks) (b .args .n) (l .inv .0) (u .movable .ensures) (l .c) (2 * l .c + 1) (omega arith) (omega arith) (sym (e .before .ready-at2 .ensures) ∙ e .if2 .left) in
-    (l .inv .0, c .member-from2 .ensures .hit, own-more (cols b) (b .args .marks) (b .args .n) (l .inv .0) (u .movable .ensures) (l .c) (c .member-from2 .result) k (l .inv .2) (not-act (e .before)) not-deac (c .member-from2 .ensures))
+    let not-deac = own-fails (cols b) (b .args .marks) (b .args .spare) (b .args .n) (l .inv .0) (u .movable .ensures) (l .c) (2 * l .c + 1) (omega arith) (omega arith) (sym (e .before .ready-at2 .ensures) ∙ e .if2 .left) in
+    (l .inv .0, c .member-from2 .ensures .hit, own-more (cols b) (b .args .marks) (b .args .spare) (b .args .n) (l .inv .0) (u .movable .ensures) (l .c) (c .member-from2 .result) k (l .inv .2) (not-act (e .before)) not-deac (c .member-from2 .ensures))
 
 returns-3 : tie.Need-returns-3 Inv-loop μ-loop
 returns-3 c =

@@ -19,8 +19,9 @@ unfolding movable
 returns c =
     let two = c .before in
     let one = two .before in
-    let s = one .before .args .marks in
-    joined-holds 64 (common (members (s .pr)) (members (s .spare))) (common (members (s .prNot)) (members (s .context))) (one .intersection .ensures) (two .intersection2 .ensures) (c .union .ensures)
+    let a = one .before .args in
+    let s = a .marks in
+    joined-holds 64 (common (members (s .pr)) (members (a .spare))) (common (members (s .prNot)) (members (s .context))) (one .intersection .ensures) (two .intersection2 .ensures) (c .union .ensures)
 
 pub movable-spec : {M : Type 1} → statement M
 movable-spec = tie.close (tie.spec intersection-requires intersection-requires-2 union-requires returns)

@@ -34,16 +34,16 @@ returns c =
     let o = c .before in
     let f = o .before .before in
     let b = f .before in
-    chooses-own (b .args .n) (b .args .t) (cols b) (b .args .marks) (b .pre .0) (o .own .given .0 .0)
-    (subst (λ (r : Found). Finds r 0 (2 * b .args .n) (own-at (cols b) (b .args .marks))) (o .own .given .1) (f .first-own .ensures))
+    chooses-own (b .args .n) (b .args .t) (cols b) (b .args .marks) (b .args .spare) (b .pre .0) (o .own .given .0 .0)
+    (subst (λ (r : Found). Finds r 0 (2 * b .args .n) (own-at (cols b) (b .args .marks) (b .args .spare))) (o .own .given .1) (f .first-own .ensures))
 
 returns-2 : tie.Need-returns-2
 returns-2 c =
     let e = c .before in
     let f = e .before .before in
     let b = f .before in
-    chooses-extra (b .args .n) (b .args .t) (cols b) (b .args .marks) (b .pre .0) (b .pre .1)
-    (subst (λ (r : Found). Finds r 0 (2 * b .args .n) (own-at (cols b) (b .args .marks))) (e .enum-told .given .1) (f .first-own .ensures))
+    chooses-extra (b .args .n) (b .args .t) (cols b) (b .args .marks) (b .args .spare) (b .pre .0) (b .pre .1)
+    (subst (λ (r : Found). Finds r 0 (2 * b .args .n) (own-at (cols b) (b .args .marks) (b .args .spare))) (e .enum-told .given .1) (f .first-own .ensures))
     (c .first-extra .result) (c .first-extra .ensures)
 
 pub next-spec : {M : Type 1} → statement M

@@ -24,9 +24,9 @@ unfolding passes-last
 returns c =
     let a = c .before .before .before .before .args in
     let gained = c .before .difference in
-    let e : c .subset2 .result ≡ within 64 (minus (members (a .givesContext)) (members (a .takesContext))) (members (a .marks .spare)) =
+    let e : c .subset2 .result ≡ within 64 (minus (members (a .givesContext)) (members (a .takesContext))) (members (a .spare)) =
     c .subset2 .ensures
-    ∙ below-cong 64 _ _ (λ j l. ap (λ (x : Bool). not x || members (a .marks .spare) j) (contained 64 (minus (members (a .givesContext)) (members (a .takesContext))) (gained .ensures) j l)) in
+    ∙ below-cong 64 _ _ (λ j l. ap (λ (x : Bool). not x || members (a .spare) j) (contained 64 (minus (members (a .givesContext)) (members (a .takesContext))) (gained .ensures) j l)) in
     λ i. c .before .before .before .subset .ensures i && c .before .before .disjoint .ensures i && e i
 
 pub passes-last-spec : {M : Type 1} → statement M

@@ -34,7 +34,7 @@ unfolding passes ready-row
 returns c =
     let a = c .before .before .before .before .before .args in
     sym
-    (ap (λ (b : Bool). b && passes-last (getD (a .takesContext .now) (a .i) 0) (getD (a .takesPr .now) (a .i) 0) (getD (a .givesContext .now) (a .i) 0) (getD (a .inhibPr .now) (a .i) 0) (a .marks))
+    (ap (λ (b : Bool). b && passes-last (getD (a .takesContext .now) (a .i) 0) (getD (a .takesPr .now) (a .i) 0) (getD (a .givesContext .now) (a .i) 0) (getD (a .inhibPr .now) (a .i) 0) (a .marks) (a .spare))
     (sym (firsts (c .before)) ∙ not-true _ (c .if1 .taken)))
 
 word-requires-4 : tie.Need-word-requires-4
@@ -56,9 +56,9 @@ returns-2 c =
     let f = w .before .before .before .before in
     let a = f .before .before .before .before .args in
     c .passes-last .ensures
-    ∙ (λ i. passes-last (f .before .before .before .word .ensures i) (w .before .before .word4 .ensures i) (w .before .word5 .ensures i) (w .word6 .ensures i) (a .marks))
+    ∙ (λ i. passes-last (f .before .before .before .word .ensures i) (w .before .before .word4 .ensures i) (w .before .word5 .ensures i) (w .word6 .ensures i) (a .marks) (a .spare))
     ∙ sym
-    (ap (λ (b : Bool). b && passes-last (getD (a .takesContext .now) (a .i) 0) (getD (a .takesPr .now) (a .i) 0) (getD (a .givesContext .now) (a .i) 0) (getD (a .inhibPr .now) (a .i) 0) (a .marks))
+    (ap (λ (b : Bool). b && passes-last (getD (a .takesContext .now) (a .i) 0) (getD (a .takesPr .now) (a .i) 0) (getD (a .givesContext .now) (a .i) 0) (getD (a .inhibPr .now) (a .i) 0) (a .marks) (a .spare))
     (sym (firsts f) ∙ not-false _ (w .before .before .before .if1 .left)))
 
 pub ready-at-spec : {M : Type 1} → statement M
