@@ -7,7 +7,7 @@ ghost use Rattle.model.specs.Sets.{bit, from, number};
 ghost use Rattle.model.specs.Firing.{holds-token};
 ghost use Rattle.model.specs.Machine.{initial-marking};
 ghost use Rattle.walk.specs.Markings.{counts-of, Shows};
-ghost use Rattle.firing.specs.Spare.{spare-word};
+ghost use Rattle.firing.specs.Spare.{below, spare-word};
 ghost use Rattle.firing.specs.Flags.{flagged, Flags};
 use crate::words;
 use walk::Marked;
@@ -55,19 +55,28 @@ fn gathered(flags: &[u8; 48], n: usize) -> u64
     word % sets::singleton(n)
 }
 
-// The active contexts among the first n.
-fn active(n: usize, counts: &[u8; 48]) -> u64
+// The contexts among the first n whose entry in one array is below that in the other.
+fn less(n: usize, low: &[u8; 48], high: &[u8; 48]) -> u64
     requires { ⌜ n ≤ 48 ⌝ }
-    ensures { λ r. ⌜ r ≡ number 64 (upto n (holds-token (counts-of (now (counts .entry))))) ⌝ }
+    ensures { λ r. ⌜ r ≡ number 64 (upto n (below (now (high .entry)) (now (low .entry)))) ⌝ }
 {
     let end = eights(n);
     let mut flags = [0u8; 48];
     let mut c = 0;
     while c < end {
-        flags[c] = flag(0 < words::byte(counts, c));
+        flags[c] = flag(words::byte(low, c) < words::byte(high, c));
         c += 1;
     }
     gathered(&flags, n)
+}
+
+// The active contexts among the first n: their counts are above 0.
+fn active(n: usize, counts: &[u8; 48]) -> u64
+    requires { ⌜ n ≤ 48 ⌝ }
+    ensures { λ r. ⌜ r ≡ number 64 (upto n (holds-token (counts-of (now (counts .entry))))) ⌝ }
+{
+    let zeros = [0u8; 48];
+    less(n, &zeros, counts)
 }
 
 // The contexts among the first n that stand below their capacity. The caller has at most 48 contexts.
@@ -75,14 +84,7 @@ pub fn below_capacity(n: usize, capacities: &[u8; 48], counts: &[u8; 48]) -> u64
     requires { ⌜ n ≤ 48 ⌝ }
     ensures { λ r. ⌜ r ≡ spare-word n (now (capacities .entry)) (now (counts .entry)) ⌝ }
 {
-    let end = eights(n);
-    let mut flags = [0u8; 48];
-    let mut c = 0;
-    while c < end {
-        flags[c] = flag(words::byte(counts, c) < words::byte(capacities, c));
-        c += 1;
-    }
-    gathered(&flags, n)
+    less(n, counts, capacities)
 }
 
 // The words of these counts with the one token that a request puts on a temporary place of c. The caller has at most 48 contexts, and c

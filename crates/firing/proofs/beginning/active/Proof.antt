@@ -1,76 +1,29 @@
--- The flags of the contexts before c are made.
-use Prim.Native.Nat.{ℕ, _+_, _-_, _*_, _/_, _≤_}
-use mathlib.Core.Path.{_≡_, ap, _∙_}
-use native.Mathlib.Omega.{arith}
+-- A count is above 0 where it is above the entry of an array of zeros.
+use Prim.Native.Nat.{ℕ}
+use mathlib.Core.Bool.{_&&_}
+use mathlib.Core.Path.{ap, _∙_}
 use borrow.Author.Needs.{needs}
 use lib.Dec.{ltb}
-use Rattle.model.specs.Sets.{Set, bit}
+use lib.ListN.{getD, replicate}
+use Rattle.sets.specs.Sets.{upto}
 use Rattle.model.specs.Firing.{holds-token}
+use Rattle.model.proofs.Masks.{number-cong}
 use Rattle.walk.specs.Markings.{counts-of}
-use Rattle.firing.proofs.Gathering.{Made, made-start, made-turn, made-flags, made-set}
+use Rattle.firing.specs.Spare.{below}
+use Rattle.firing.proofs.Gathering.{zeros-at}
 use Rattle.firing.proofs.beginning.active.Statement.{statement}
 use Rattle.firing.proofs.beginning.active.Tie as tie
 
-abbrev Inv-loop : tie.InvT-loop
-Inv-loop n counts end flags₀ c₀ flags c = (n ≤ 48) × (end ≡ 8 * ((n + 7) / 8)) × Made (holds-token (counts-of counts)) c flags
+less-requires : tie.Need-less-requires
+less-requires c κs = search needs
 
-abbrev μ-loop : tie.MeasureT-loop
-μ-loop n counts end flags₀ c₀ flags c = end - c
-
-abbrev flagged-here : tie.Start Inv-loop μ-loop → Set
-flagged-here s = holds-token (counts-of (s .args .counts .now))
-
-eights-requires : tie.Need-eights-requires Inv-loop μ-loop
-eights-requires c κs = c .pre
-
-loop-holds : tie.Need-loop-holds Inv-loop μ-loop
-loop-holds c = (c .before .pre, c .eights .ensures, made-start (flagged-here (c .before)))
-
-byte-requires : tie.Need-byte-requires Inv-loop μ-loop
-byte-requires c κs = omega arith
-
-flag-requires : tie.Need-flag-requires Inv-loop μ-loop
-flag-requires c κs = search needs
-
-array-write-flags : tie.Need-array-write-flags Inv-loop μ-loop
-array-write-flags c = omega arith
-
-add-c : tie.Need-add-c Inv-loop μ-loop
-add-c c = omega arith
-
-loop-less : tie.Need-loop-less Inv-loop μ-loop
-loop-less c = omega arith
-
-loop-again : tie.Need-loop-again Inv-loop μ-loop
-loop-again c =
-    let b = c .before in
-    let i = b .before in
-    let l = i .before .loop in
-    (l .inv .0, l .inv .1, made-turn (flagged-here (i .before .before .before)) (l .inv .2) (omega (arith, l .inv .0, l .inv .1, i .loop-test .taken)) (c .flag .ensures ∙ ap (λ (x : ℕ). bit (ltb 0 x)) (b .byte .ensures)))
-
-gathered-requires : tie.Need-gathered-requires Inv-loop μ-loop
-gathered-requires c κs = let h = c .before .before in (h .loop .inv .0, made-flags (flagged-here (h .before .before)) (h .loop .inv .2))
-
-returns : tie.Need-returns Inv-loop μ-loop
+returns : tie.Need-returns
 returns c =
-    let w = c .before .before in
-    let l = w .before .loop in
-    let s = w .before .before .before in
-    made-set (flagged-here s) (l .inv .2) (s .args .n) (omega (arith, l .inv .1, w .loop-test .left)) (c .gathered .ensures)
+    let a = c .before .before .args in
+    let counts = a .counts .now in
+    c .less .ensures
+    ∙ number-cong 64 (upto (a .n) (below counts (replicate 48 0))) (upto (a .n) (holds-token (counts-of counts)))
+    (λ j l. ap (λ (x : ℕ). ltb j (a .n) && ltb x (getD counts j 0)) (zeros-at 48 j))
 
 pub active-spec : {M : Type 1} → statement M
-active-spec =
-    tie.close
-    (tie.spec
-    Inv-loop
-    μ-loop
-    eights-requires
-    loop-holds
-    byte-requires
-    flag-requires
-    array-write-flags
-    add-c
-    loop-less
-    loop-again
-    gathered-requires
-    returns)
+active-spec = tie.close (tie.spec less-requires returns)

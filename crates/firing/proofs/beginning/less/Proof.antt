@@ -7,17 +7,17 @@ use lib.Dec.{ltb}
 use Rattle.model.specs.Sets.{Set, bit}
 use Rattle.firing.specs.Spare.{below}
 use Rattle.firing.proofs.Gathering.{Made, made-start, made-turn, made-flags, made-set}
-use Rattle.firing.proofs.beginning.below_capacity.Statement.{statement}
-use Rattle.firing.proofs.beginning.below_capacity.Tie as tie
+use Rattle.firing.proofs.beginning.less.Statement.{statement}
+use Rattle.firing.proofs.beginning.less.Tie as tie
 
 abbrev Inv-loop : tie.InvT-loop
-Inv-loop n capacities counts end flags₀ c₀ flags c = (n ≤ 48) × (end ≡ 8 * ((n + 7) / 8)) × Made (below capacities counts) c flags
+Inv-loop n low high end flags₀ c₀ flags c = (n ≤ 48) × (end ≡ 8 * ((n + 7) / 8)) × Made (below high low) c flags
 
 abbrev μ-loop : tie.MeasureT-loop
-μ-loop n capacities counts end flags₀ c₀ flags c = end - c
+μ-loop n low high end flags₀ c₀ flags c = end - c
 
 abbrev flagged-here : tie.Start Inv-loop μ-loop → Set
-flagged-here s = below (s .args .capacities .now) (s .args .counts .now)
+flagged-here s = below (s .args .high .now) (s .args .low .now)
 
 eights-requires : tie.Need-eights-requires Inv-loop μ-loop
 eights-requires c κs = c .pre
@@ -61,8 +61,8 @@ returns c =
     let s = w .before .before .before in
     made-set (flagged-here s) (l .inv .2) (s .args .n) (omega (arith, l .inv .1, w .loop-test .left)) (c .gathered .ensures)
 
-pub below-capacity-spec : {M : Type 1} → statement M
-below-capacity-spec =
+pub less-spec : {M : Type 1} → statement M
+less-spec =
     tie.close
     (tie.spec
     Inv-loop
