@@ -4,7 +4,7 @@
 #   examples/run.sh          the C and the Python example
 #   examples/run.sh stack    the stack that each function needs
 #
-# BOARD_LIB names an archive to use; without it `rt staticlib board` makes one. CC and PYTHON name other programs than cc and python3.
+# BOARD_LIB names an archive to use; without it one is made of the crate board_c. CC and PYTHON name other programs than cc and python3.
 set -eu
 
 case "$# ${1:-}" in
@@ -24,7 +24,9 @@ case ${BOARD_LIB:-} in
 esac
 CDPATH='' cd -- "$(dirname -- "$0")/.."
 if [ -z "${BOARD_LIB:-}" ]; then
-    rt staticlib board
+    (cd crates/board_c && rt lib)
+    mkdir -p target/staticlib
+    cp crates/board_c/out/libboard_c.a target/staticlib/libboard.a
     BOARD_LIB=target/staticlib/libboard.a
 fi
 mkdir -p target/examples

@@ -1,4 +1,4 @@
-/* The condition board from C or C++: link libboard.a, which `rt staticlib board` makes.
+/* The condition board from C or C++: link libboard.a, which examples/run.sh makes of the crate board_c.
 
    A pointer and the length behind it are one array of the caller's: the pointer must not be null, also at length 0, and that many bytes
    must be there to be read, or written at `out`. `out` must not overlap another array of the call. The functions keep nothing from one

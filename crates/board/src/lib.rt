@@ -1,4 +1,6 @@
-// The board for programs in other languages: a slice passes as a pointer and a length. include/board.h declares these functions for C.
+// The board for programs in other languages, with numbers in place of verdicts; `board_c` exports these functions to C.
+#![tactic(auto)]
+
 ghost use Rattle.std.specs.Prelude.{◌≡◌};
 ghost use Rattle.model.specs.Refusals.{verdict_number};
 ghost use Rattle.model.specs.Image.{edition_1, load};
@@ -9,8 +11,7 @@ use image::Composed;
 use model::Verdict;
 
 // Composes an image into the output: its length, or the refusal.
-#[unsafe(no_mangle)]
-pub extern "C" fn board_compose(capacities: &[u8], relations: &[u8], out: &mut [u8]) -> u64
+pub fn board_compose(capacities: &[u8], relations: &[u8], out: &mut [u8]) -> u64
     ensures { (record { value = result; output = out.new }) ≡ composed capacities.now relations.now out.old }
 {
     match image::compose(capacities, relations, out) {
@@ -20,8 +21,7 @@ pub extern "C" fn board_compose(capacities: &[u8], relations: &[u8], out: &mut [
 }
 
 // Checks an image: 0, or the refusal.
-#[unsafe(no_mangle)]
-pub extern "C" fn board_check(image: &[u8]) -> u32
+pub fn board_check(image: &[u8]) -> u32
     ensures { result ≡ verdict_number (load edition_1 image.now).verdict }
 {
     match image::check(image) {
@@ -32,8 +32,7 @@ pub extern "C" fn board_check(image: &[u8]) -> u32
 
 // Writes the list that an accepted image stands for: the number of bytes written, or the refusal. A list of 3 to 9 bytes may have a refusal's
 // value: board_check tells which it is.
-#[unsafe(no_mangle)]
-pub extern "C" fn board_list(image: &[u8], out: &mut [u8]) -> u64
+pub fn board_list(image: &[u8], out: &mut [u8]) -> u64
     ensures { (record { value = result; output = out.new }) ≡ listed image.now out.old }
 {
     let list = image::list(image, out);
@@ -45,8 +44,7 @@ pub extern "C" fn board_list(image: &[u8], out: &mut [u8]) -> u64
 }
 
 // Runs a list of calls on the net freshly loaded from an image: the number of bytes written.
-#[unsafe(no_mangle)]
-pub extern "C" fn board_run(image: &[u8], calls: &[u8], out: &mut [u8]) -> u64
+pub fn board_run(image: &[u8], calls: &[u8], out: &mut [u8]) -> u64
     ensures { (record { written = result; output = out.new }) ≡ ran image.now calls.now out.old }
 {
     history::run(image, calls, out) as u64

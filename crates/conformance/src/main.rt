@@ -1,11 +1,15 @@
 // Composes and loads each net of a stream of frames, makes its calls one after the other, and prints what came of them. The stream and
 // the form of the listing are described in reference/README.md; the stored listing is that of `reference`.
+#![tactic(auto)]
+
 ghost use Rattle.std.specs.Prelude.{◌≡◌, ◌≤◌, length};
 
 use image::Composed;
 use listing::{BLANK, LINE_END};
 use model::{Answer, Call};
 use state::Engine;
+use std::io;
+use std::io::{Read, Write};
 
 // An engine, and the hash of all that its calls gave.
 #[derive(Drop)]
@@ -14,11 +18,12 @@ struct Run {
     hash: u64,
 }
 
-// A call read from the stream, or none.
-#[derive(Drop)]
-enum Asked {
-    Some(Call),
-    None,
+// What a frame asks for behind its net: damages of the image, calls, and whether each call has a line.
+#[derive(Clone, Copy)]
+struct Asked {
+    damages: u8,
+    calls: usize,
+    verbose: bool,
 }
 
 // Room enough for any image.
@@ -29,96 +34,90 @@ fn room() -> [u8; 10240]
 }
 
 // A call from its three bytes.
-fn call_of(kind: u8, context: usize) -> Asked {
+fn call_of(kind: u8, context: usize) -> Option<Call> {
     match kind {
-        0 => Asked::Some(Call::Activate(context)),
-        1 => Asked::Some(Call::Deactivate(context)),
-        2 => Asked::Some(Call::Undo),
-        3 => Asked::Some(Call::Settle),
-        _ => Asked::None,
+        0 => Some(Call::Activate(context)),
+        1 => Some(Call::Deactivate(context)),
+        2 => Some(Call::Undo),
+        3 => Some(Call::Settle),
+        _ => None,
     }
 }
 
 // The next call of the stream.
-fn read_call() -> Asked {
+fn read_call(input: &mut impl Read) -> Option<Call> {
     let mut bytes = [0u8; 3];
-    if listing::read(&mut bytes, 3) < 3 {
-        return Asked::None;
+    if listing::read(input, &mut bytes, 3) < 3 {
+        return None;
     }
     call_of(bytes[0], layout::pair(bytes[1], bytes[2]))
 }
 
 // The hash with an answer more, and with the counts and totals after it.
-fn hash_call(h: u64, answer: Answer, engine: Engine) -> u64 {
-    let verdict = answer.verdict;
-    let counts = engine.counts;
-    let first = listing::fold(h, model::number(verdict));
+fn hash_call(h: u64, answer: &Answer, engine: &Engine) -> u64 {
+    let first = listing::fold(h, model::number(answer.verdict));
     let firings = listing::hash_number(first, answer.firings as u64, 2);
     let forced = listing::hash_number(firings, answer.forced as u64, 2);
-    let marking = listing::hash_front(forced, &counts, engine.n);
+    let marking = listing::hash_front(forced, &engine.counts, engine.n);
     let granted = listing::hash_number(marking, engine.granted as u64, 4);
     let refused = listing::hash_number(granted, engine.refused as u64, 4);
     listing::hash_number(refused, engine.undone as u64, 4)
 }
 
 // Prints the first n counts, each behind a blank, and ends the line.
-fn print_counts(counts: [u8; 48], n: usize) {
-    let mut c = 0;
-    while c < n && c < 48 {
-        listing::print_byte(BLANK);
-        listing::print_number(counts[c] as u64);
-        c += 1;
+fn print_counts(out: &mut impl Write, counts: &[u8; 48], n: usize) -> io::Result<()> {
+    for count in counts.iter().take(n) {
+        listing::print_byte(out, BLANK)?;
+        listing::print_number(out, *count as u64)?;
     }
-    listing::print_byte(LINE_END);
+    listing::print_byte(out, LINE_END)
 }
 
 // Prints verdict, firings, forced ones and counts.
-fn print_call(answer: Answer, engine: Engine) {
-    let verdict = answer.verdict;
-    let counts = engine.counts;
-    listing::print(model::number(verdict) as u64, BLANK);
-    listing::print(answer.firings as u64, BLANK);
-    listing::print_number(answer.forced as u64);
-    print_counts(counts, engine.n);
+fn print_call(out: &mut impl Write, answer: &Answer, engine: &Engine) -> io::Result<()> {
+    listing::print(out, model::number(answer.verdict) as u64, BLANK)?;
+    listing::print(out, answer.firings as u64, BLANK)?;
+    listing::print_number(out, answer.forced as u64)?;
+    print_counts(out, &engine.counts, engine.n)
 }
 
 // Makes one call.
-fn make_call(run: Run, call: Call, verbose: bool) -> Run {
-    let before = run.engine;
-    let reply = engine::perform(before, call);
+fn make_call(out: &mut impl Write, run: Run, call: Call, verbose: bool) -> io::Result<Run> {
+    let reply = engine::perform(run.engine, call);
     let answer = reply.answer;
     let engine = reply.engine;
     if verbose {
-        print_call(answer, engine);
+        print_call(out, &answer, &engine)?;
     }
-    Run {
-        engine,
-        hash: hash_call(run.hash, answer, engine),
-    }
+    let hash = hash_call(run.hash, &answer, &engine);
+    Ok(Run { engine, hash })
 }
 
 // Prints the hash over all calls, and the totals.
-fn print_totals(run: Run) {
+fn print_totals(out: &mut impl Write, run: Run) -> io::Result<()> {
     let engine = run.engine;
-    listing::print(run.hash, BLANK);
-    listing::print(engine.granted as u64, BLANK);
-    listing::print(engine.refused as u64, BLANK);
-    listing::print(engine.undone as u64, LINE_END);
+    listing::print(out, run.hash, BLANK)?;
+    listing::print(out, engine.granted as u64, BLANK)?;
+    listing::print(out, engine.refused as u64, BLANK)?;
+    listing::print(out, engine.undone as u64, LINE_END)
 }
 
 // Makes the calls of a frame, and answers whether they were there.
-fn make_calls(engine: Engine, calls: usize, verbose: bool) -> bool {
+fn make_calls(
+    input: &mut impl Read,
+    out: &mut impl Write,
+    engine: Engine,
+    asked: Asked,
+) -> io::Result<bool> {
     let mut run = Run { engine, hash: 0 };
-    let mut i = 0;
-    while i < calls {
-        let Asked::Some(call) = read_call() else {
-            return false;
+    for _ in 0..asked.calls {
+        let Some(call) = read_call(input) else {
+            return Ok(false);
         };
-        run = make_call(run, call, verbose);
-        i += 1;
+        run = make_call(out, run, call, asked.verbose)?;
     }
-    print_totals(run);
-    true
+    print_totals(out, run)?;
+    Ok(true)
 }
 
 // Stores a byte of the image; behind it there is nothing to store.
@@ -129,9 +128,9 @@ fn store(image: &mut [u8], at: usize, b: u8) {
 }
 
 // Damages the image in one place, and answers whether the damage was there.
-fn damage(image: &mut [u8]) -> bool {
+fn damage(input: &mut impl Read, image: &mut [u8]) -> bool {
     let mut bytes = [0u8; 3];
-    if listing::read(&mut bytes, 3) < 3 {
+    if listing::read(input, &mut bytes, 3) < 3 {
         return false;
     }
     store(image, layout::pair(bytes[0], bytes[1]), bytes[2]);
@@ -139,31 +138,32 @@ fn damage(image: &mut [u8]) -> bool {
 }
 
 // Damages the image in so many places, and answers whether the damages were there.
-fn damage_all(image: &mut [u8], count: u8) -> bool {
-    let mut i: u8 = 0;
-    while i < count {
-        if !damage(image) {
+fn damage_all(input: &mut impl Read, image: &mut [u8], count: u8) -> bool {
+    for _ in 0..count {
+        if !damage(input, image) {
             return false;
         }
-        i += 1;
     }
     true
 }
 
 // Loads an image and makes the calls.
-fn load_and_call(image: &[u8], calls: usize, verbose: bool) -> bool {
+fn load_and_call(
+    input: &mut impl Read,
+    out: &mut impl Write,
+    image: &[u8],
+    asked: Asked,
+) -> io::Result<bool> {
     let loaded = image::load(image);
-    let verdict = loaded.verdict;
-    let engine = loaded.engine;
-    listing::print_load(verdict, engine, image::records(image));
-    make_calls(engine, calls, verbose)
+    listing::print_load(out, loaded.verdict, &loaded.engine, image::records(image))?;
+    make_calls(input, out, loaded.engine, asked)
 }
 
 // What composing answers: its verdict's number, and the image's length, which is 0 where it was refused.
-fn refusal(answer: Composed) -> u8 {
+fn refusal(answer: &Composed) -> u8 {
     match answer {
         Composed::Length(_) => 0,
-        Composed::Refused(k) => k,
+        Composed::Refused(k) => *k,
     }
 }
 
@@ -177,61 +177,68 @@ fn image_length(answer: Composed) -> usize
 }
 
 // Damages an image, loads it and makes the calls.
-fn run_image(image: &mut [u8], damages: u8, calls: usize, verbose: bool) -> bool {
-    if damage_all(image, damages) {
-        load_and_call(image, calls, verbose)
+fn run_image(
+    input: &mut impl Read,
+    out: &mut impl Write,
+    image: &mut [u8],
+    asked: Asked,
+) -> io::Result<bool> {
+    if damage_all(input, image, asked.damages) {
+        load_and_call(input, out, image, asked)
     } else {
-        false
+        Ok(false)
     }
 }
 
 // Composes the net of a frame and runs its image.
 fn run_frame(
+    input: &mut impl Read,
+    out: &mut impl Write,
     capacities: &[u8],
     relations: &[u8],
-    damages: u8,
-    calls: usize,
-    verbose: bool,
-) -> bool {
+    asked: Asked,
+) -> io::Result<bool> {
     let mut image = room();
     let answer = image::compose(capacities, relations, &mut image);
-    listing::print(refusal(answer) as u64, BLANK);
+    listing::print(out, refusal(&answer) as u64, BLANK)?;
     let k = image_length(answer);
-    run_image(&mut image[..k], damages, calls, verbose)
+    run_image(input, out, &mut image[..k], asked)
 }
 
 // Reads and runs one frame, and answers whether it was there.
-fn next_frame() -> bool {
+fn next_frame(input: &mut impl Read, out: &mut impl Write) -> io::Result<bool> {
     let mut header = [0u8; 8];
-    if listing::read(&mut header, 8) < 8 {
-        return false;
+    if listing::read(input, &mut header, 8) < 8 {
+        return Ok(false);
     }
     let n = layout::pair(header[0], header[1]);
     let m = layout::pair(header[2], header[3]);
-    let calls = layout::pair(header[4], header[5]);
-    let mut capacities = io::large_buffer();
-    let mut relations = io::large_buffer();
-    let a = listing::read(&mut capacities, n);
-    let b = listing::read(&mut relations, m);
+    let mut capacities = listing::large_buffer();
+    let mut relations = listing::large_buffer();
+    let a = listing::read(input, &mut capacities, n);
+    let b = listing::read(input, &mut relations, m);
     if a < n {
-        return false;
+        return Ok(false);
     }
     if b < m {
-        return false;
+        return Ok(false);
     }
-    run_frame(
-        &capacities[..a],
-        &relations[..b],
-        header[6],
-        calls,
-        header[7] == 1,
-    )
+    let asked = Asked {
+        damages: header[6],
+        calls: layout::pair(header[4], header[5]),
+        verbose: header[7] == 1,
+    };
+    run_frame(input, out, &capacities[..a], &relations[..b], asked)
 }
 
-// The loop counts down from a number that no stream uses up, since a proved loop has to end.
-fn main() {
-    let mut turns = u64::MAX;
-    while turns > 0 && next_frame() {
-        turns -= 1;
+// The loop ends after as many turns as no stream has, since a proved loop has to end.
+fn main(rt: HostRuntime) -> io::Result<()> {
+    let mut input = rt.stdin();
+    let mut out = rt.stdout();
+    for _ in 0..u64::MAX {
+        if !next_frame(&mut input, &mut out)? {
+            break;
+        }
     }
+    Ok(())
 }

@@ -1,4 +1,6 @@
 // Calls, answers and totals as bytes.
+#![tactic(auto)]
+
 ghost use Rattle.std.specs.Prelude.{◌≡◌, not, ◌+◌, ◌<◌, length, get_or};
 ghost use Rattle.state.specs.View.{tally_in};
 ghost use Rattle.records.specs.Bytes.{put};

@@ -9,7 +9,7 @@ use lib.ListN.{length, get_or, take}
 use lib.Seq.{length-take-le, get_or-take}
 use Rattle.model.specs.Sets.{any}
 use Rattle.model.specs.Refusals.{is_granted}
-use Rattle.model.specs.Relations.{size, relation_count, capacity, misfit, empty_net}
+use Rattle.model.specs.Relations.{size, capacity, misfit, empty_net}
 use Rattle.model.specs.Transitions.{transitions_of}
 use Rattle.model.specs.Machine.{Request, State, call_of, effect, commit, respond, tally_after, make_request, without_firings}
 use Rattle.model.specs.Image.{edition_1}

@@ -18,7 +18,7 @@ pub struct After {
 }
 
 // The active contexts, and those below their capacity.
-#[derive(Drop)]
+#[derive(Clone, Copy)]
 struct CountSets {
     active: u64,
     spare: u64,

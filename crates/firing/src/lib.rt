@@ -1,4 +1,6 @@
 // The sets that a step goes by as its tokens move: told from the counts where it begins, and renewed with each firing.
+#![tactic(auto)]
+
 mod beginning;
 mod firing;
 mod words;

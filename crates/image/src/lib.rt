@@ -1,4 +1,6 @@
 // The image of a net: composed into a lent buffer, loaded from lent bytes, and listed again.
+#![tactic(auto)]
+
 mod checks;
 mod composing;
 mod listing;

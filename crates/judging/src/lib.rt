@@ -1,4 +1,6 @@
 // A request: the verdict before its step, the step, and the verdict on how it ends.
+#![tactic(auto)]
+
 ghost use Rattle.std.specs.Prelude.{◌≡◌, ◌&&◌, not, List, [], ◌∷◌, ℕ, ◌<◌, ◌≤◌, eqb, leb, get_or};
 ghost use Rattle.model.specs.Refusals.{refuse, first_refusal, no_such_context, already_off, step_limit_met, tokens_left, not_raised};
 ghost use Rattle.model.specs.Relations.{Net};

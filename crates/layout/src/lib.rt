@@ -1,4 +1,6 @@
 // The layout of an image: its limits and sizes, its trailer, and the parts that the trailer points to.
+#![tactic(auto)]
+
 mod limits;
 mod sizes;
 mod trailers;

@@ -9,7 +9,7 @@ use crate::sizes::wrong_sizes;
 use model::{OTHER_EDITION, Verdict, WRONG_LAYOUT, WRONG_SIZES};
 
 // What the trailer says: the two distances, n, r, t and the edition.
-#[derive(Drop)]
+#[derive(Clone, Copy)]
 pub struct Trailer {
     pub to_relations: usize,
     pub to_records: usize,

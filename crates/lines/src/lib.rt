@@ -1,3 +1,4 @@
+#![tactic(auto)]
 // The lines of text that the program bench-run reads: which call a line is (document 01, "Six conditions").
 mod reading;
 

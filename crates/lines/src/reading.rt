@@ -7,7 +7,7 @@ ghost use Rattle.lines.specs.Kept.{Empty, Pushed, Begun, Means};
 use model::Call;
 
 // The first bytes of a line and its length, which stops counting at 5: no call's text is longer than 4 bytes.
-#[derive(Drop)]
+#[derive(Clone, Copy)]
 pub struct Line {
     pub start: [u8; 4],
     pub len: usize,

@@ -1,10 +1,12 @@
 // What the programs share that print listings to be compared with those of `reference`: a hash, reading, and text.
-ghost use Rattle.std.specs.Prelude.{◌≡◌, take};
+#![tactic(auto)]
+
+ghost use Rattle.std.specs.Prelude.{◌≡◌, ◌≤◌, length, take};
 ghost use Rattle.model.specs.Image.{bytes};
-ghost use Rattle.io.specs.Counts.{IsPrefixLen};
 ghost use Rattle.listing.specs.Hash.{folded, hashed};
 
-use libc::{STDIN_FILENO, STDOUT_FILENO};
+use std::io;
+use std::io::{Read, Write};
 
 mod loads;
 
@@ -60,30 +62,50 @@ pub fn hash_number(h: u64, x: u64, k: usize) -> u64
     sum
 }
 
-// Reads k bytes of standard input to the buffer's start, and answers how many came: fewer where the input ends or the buffer does.
-pub fn read(buf: &mut [u8], k: usize) -> usize
-    ensures { IsPrefixLen result buf.new }
+// 65,536 zeros: more than a length of two bytes asks for.
+pub fn large_buffer() -> [u8; 65536]
+    ensures { 65536 ≡ length result }
+{
+    [0; 65536]
+}
+
+// Reads to the buffer until it is full, the input ends or a read fails, and answers how many bytes came.
+fn fill(input: &mut impl Read, buf: &mut [u8]) -> usize
+    ensures { (result ≤ length buf.new) × (result ≡ length (take result buf.new)) }
+{
+    let mut done = 0;
+    while done < buf.len() {
+        match input.read(&mut buf[done..]) {
+            Ok(n) if n > 0 => done += n,
+            _ => break,
+        }
+    }
+    done
+}
+
+// Reads k bytes of the input to the buffer's start, and answers how many came: fewer where the input ends or the buffer does.
+pub fn read(input: &mut impl Read, buf: &mut [u8], k: usize) -> usize
+    ensures { (result ≤ length buf.new) × (result ≡ length (take result buf.new)) }
 {
     if k <= buf.len() {
-        io::read_full(STDIN_FILENO, &mut buf[..k])
+        fill(input, &mut buf[..k])
     } else {
-        io::read_full(STDIN_FILENO, buf)
+        fill(input, buf)
     }
 }
 
 // Prints one byte.
-pub fn print_byte(b: u8) {
-    let text = [b];
-    io::write_all(STDOUT_FILENO, &text);
+pub fn print_byte(out: &mut impl Write, b: u8) -> io::Result<()> {
+    out.write_all(&[b])
 }
 
 // Prints a number in decimal.
-pub fn print_number(x: u64) {
-    io::print_decimal(STDOUT_FILENO, x);
+pub fn print_number(out: &mut impl Write, x: u64) -> io::Result<()> {
+    write!(out, "{x}")
 }
 
 // Prints a number and then a byte.
-pub fn print(x: u64, end: u8) {
-    print_number(x);
-    print_byte(end);
+pub fn print(out: &mut impl Write, x: u64, end: u8) -> io::Result<()> {
+    print_number(out, x)?;
+    print_byte(out, end)
 }

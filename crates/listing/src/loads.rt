@@ -2,6 +2,8 @@
 use crate::{BLANK, LINE_END, hash, hash_front, print};
 use model::{Verdict, number};
 use state::Engine;
+use std::io;
+use std::io::Write;
 
 // How many bytes r relations have, of the 288 that an engine holds.
 fn relation_bytes(r: usize) -> usize {
@@ -9,19 +11,22 @@ fn relation_bytes(r: usize) -> usize {
 }
 
 // The hash of the capacities, the relations and the record part.
-fn hash_load(engine: Engine, records: &[u8]) -> u64 {
-    let capacities = engine.capacities;
-    let relations = engine.relations;
-    let first = hash_front(0, &capacities, engine.n);
-    let second = hash_front(first, &relations, relation_bytes(engine.r));
+fn hash_load(engine: &Engine, records: &[u8]) -> u64 {
+    let first = hash_front(0, &engine.capacities, engine.n);
+    let second = hash_front(first, &engine.relations, relation_bytes(engine.r));
     hash(second, records)
 }
 
 // Prints verdict, contexts, relations, the record part's length, and the hash of all.
-pub fn print_load(verdict: Verdict, engine: Engine, records: &[u8]) {
-    print(number(verdict) as u64, BLANK);
-    print(engine.n as u64, BLANK);
-    print(engine.r as u64, BLANK);
-    print(records.len() as u64, BLANK);
-    print(hash_load(engine, records), LINE_END);
+pub fn print_load(
+    out: &mut impl Write,
+    verdict: Verdict,
+    engine: &Engine,
+    records: &[u8],
+) -> io::Result<()> {
+    print(out, number(verdict) as u64, BLANK)?;
+    print(out, engine.n as u64, BLANK)?;
+    print(out, engine.r as u64, BLANK)?;
+    print(out, records.len() as u64, BLANK)?;
+    print(out, hash_load(engine, records), LINE_END)
 }

@@ -4,7 +4,7 @@ ghost use Rattle.std.specs.Prelude.{◌≡◌};
 ghost use Rattle.model.specs.Refusals.{verdict_number};
 
 // The four calls; a request carries the number of its context.
-#[derive(Drop)]
+#[derive(Clone, Copy, Drop)]
 pub enum Call {
     Activate(usize),
     Deactivate(usize),
@@ -13,7 +13,7 @@ pub enum Call {
 }
 
 // Whether a call was granted, and with which number it was refused where it was not.
-#[derive(Drop)]
+#[derive(Clone, Copy, Drop)]
 pub enum Verdict {
     Granted,
     Refused(u8),
@@ -30,7 +30,7 @@ pub fn number(verdict: Verdict) -> u8
 }
 
 // What a call is answered: the verdict, how many transitions fired, also where they were rolled back, and how many of these were forced.
-#[derive(Drop)]
+#[derive(Clone, Copy, Drop)]
 pub struct Answer {
     pub verdict: Verdict,
     pub firings: usize,

@@ -1,4 +1,6 @@
 // The composed net: its transitions by number, in nine arrays.
+#![tactic(auto)]
+
 mod compose;
 mod tables;
 

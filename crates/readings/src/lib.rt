@@ -1,4 +1,6 @@
 // The readings of an engine: its contexts, relations, capacities, counts and totals.
+#![tactic(auto)]
+
 use model::Verdict;
 
 mod readings;

@@ -1,4 +1,6 @@
 // The bytes of an image's parts: written to a lent buffer, and records compared in place with those that a list makes.
+#![tactic(auto)]
+
 mod comparing;
 mod writing;
 

@@ -1,4 +1,6 @@
 // Relation bytes: their checks (refusals 5, 6 and 7), and what the relations link.
+#![tactic(auto)]
+
 mod checks;
 mod links;
 

@@ -1,4 +1,6 @@
 // The open list over lent arrays, a ring of 32 slots. How the arrays are read is in specs/View.antt.
+#![tactic(auto)]
+
 mod slots;
 
 pub use slots::{push, request_number, restore, take_back};

@@ -1,4 +1,6 @@
 // The engine's value: a net with its counts, its open list and its totals. How it is read as the machine's state is in specs/View.antt.
+#![tactic(auto)]
+
 use model::Answer;
 
 mod calls;
@@ -10,7 +12,7 @@ pub use tallies::{one_more, tallied};
 pub use value::{empty, fresh, shown, sound};
 
 // Primary data only, so that every value has a meaning.
-#[derive(Drop)]
+#[derive(Clone, Copy, Drop)]
 pub struct Engine {
     pub n: usize,
     pub r: usize,

@@ -1,4 +1,6 @@
 // The transitions of a net one by one, each as words, and how many there are.
+#![tactic(auto)]
+
 mod counts;
 mod from_links;
 mod roles;

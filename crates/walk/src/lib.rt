@@ -1,10 +1,12 @@
 // A marking in words, and the walk over the transitions that finds the next to fire.
+#![tactic(auto)]
+
 mod walk;
 
 pub use walk::next;
 
 // The marked places of a net, those that hold a token: a word for each kind of place, the set of its contexts.
-#[derive(Drop)]
+#[derive(Clone, Copy, Drop)]
 pub struct Marked {
     pub context: u64,
     pub pr: u64,

@@ -6,13 +6,13 @@ use borrow.Author.Rules.{rules}
 use Rattle.sets.proofs.member_from.Statement.{statement}
 use Rattle.sets.proofs.member_from.Tie as tie
 
-shr_result : tie.Need-overflow-shr-result
+shr_result : tie.Need-overflow_shr-result
 shr_result c = search rules
 
-cast_result : tie.Need-overflow-cast-result
+cast_result : tie.Need-overflow_cast-result
 cast_result c = omega (arith, trailing_le 64 (c.args.set / 2 ^ c.args.c))
 
-add_result : tie.Need-overflow-add-result
+add_result : tie.Need-overflow_add-result
 add_result c = omega (arith, trailing_le 64 (c.args.set / 2 ^ c.args.c))
 
 returns : tie.Need-returns

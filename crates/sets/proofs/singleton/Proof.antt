@@ -3,7 +3,7 @@ use borrow.Author.Rules.{rules}
 use Rattle.sets.proofs.singleton.Statement.{statement}
 use Rattle.sets.proofs.singleton.Tie as tie
 
-shl_result : tie.Need-overflow-shl-result
+shl_result : tie.Need-overflow_shl-result
 shl_result c = search rules
 
 returns : tie.Need-returns

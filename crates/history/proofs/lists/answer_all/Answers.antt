@@ -1,0 +1,54 @@
+use Prim.Native.Nat.{◌+◌, ◌*◌, ◌/◌, ◌<◌, ◌≤◌}
+use native.Mathlib.Omega.{arith}
+use mathlib.Core.Path.{refl}
+use lib.ListN.{length}
+use Rattle.model.specs.Relations.{Net}
+use Rattle.steps.specs.Steps.{Describes}
+use Rattle.serving.specs.Serving.{Running}
+use Rattle.history.proofs.Leading.{led_none, led_next, led_all}
+use Rattle.history.proofs.lists.answer_all.Goals as goal
+
+pub loop-k-init : goal.loop-k-init
+loop-k-init c =
+    (refl, record { of_requests = refl; of_markings = refl }, omega arith, λ net d. led_none net _ _ c.no_totals-tally.ensures)
+
+pub answer_one-s-requires : goal.answer_one-s-requires
+answer_one-s-requires c =
+    let test = c.loop-k-test.true in
+    let inv = c.loop-k.invariant in
+    let held = c.requires.held in record {
+      runs = record {
+        net = held.net;
+        running = record { few_contexts = held.few_contexts; few_transitions = held.few_transitions; describes = held.describes; slots = inv.1; few_open = inv.2 };
+      };
+      k_in_bounds = (omega (arith, test), omega (arith, test, inv.0, c.requires.calls_in_bounds));
+    }
+
+pub overflow_add-k : goal.overflow_add-k
+overflow_add-k c =
+    omega (arith, c.loop-k-test.true)
+
+pub loop-k-smaller : goal.loop-k-smaller
+loop-k-smaller c =
+    omega (arith, c.loop-k-test.true)
+
+pub loop-k-preserved : goal.loop-k-preserved
+loop-k-preserved c =
+    let inv = c.loop-k.invariant in
+    let held = c.requires.held in
+    let running : (net : Net) → Describes net _ _ _ _ → Running net _ _ _ _ _ _ _ =
+    λ net d. record { few_contexts = held.few_contexts; few_transitions = held.few_transitions; describes = d; slots = inv.1; few_open = inv.2 } in
+    let made = c.answer_one-s.ensures held.net (running held.net held.describes) in
+    let k = c.loop-k.k in
+    let calls = c.args.calls.now in
+    let test : k < length calls / 3 = omega (arith, c.loop-k-test.true) in
+    let room : 5 * k + 5 ≤ length c.args.out.now = omega (arith, test, c.requires.calls_in_bounds) in (
+      omega (arith, c.answer_one-s.auto, inv.0),
+      made.serves.slots,
+      made.serves.few_open,
+      λ net d. led_next net calls k test _ _ _ _ _ _ _ room (inv.3 net d) _ _ _ _ _ (c.answer_one-s.ensures net (running net d)),
+    )
+
+pub returns : goal.returns
+returns c =
+    λ net d. led_all net _ c.loop-k.k c.loop-k-test.false _ _ _ _ _ _ _ (c.loop-k.invariant.3 net d)
