@@ -132,7 +132,7 @@ fn read_some(
     take(out, progress, &bytes[..n])
 }
 
-// Reads the input to its end. The loop ends after as many turns as no input has, since a proved loop has to end.
+// Reads the input to its end. A proved loop has to end, so this one has a bound, which no input comes up to.
 fn read_all(input: &mut impl Read, out: &mut impl Write, start: Progress) -> io::Result<Progress> {
     let mut progress = start;
     for _ in 0..u64::MAX {

@@ -82,7 +82,7 @@ fn next_case(input: &mut impl Read, out: &mut impl Write) -> io::Result<bool> {
     Ok(true)
 }
 
-// The loop ends after as many turns as no stream has, since a proved loop has to end.
+// A proved loop has to end, so this one has a bound, which no stream comes up to.
 fn main(rt: HostRuntime) -> io::Result<()> {
     let mut input = rt.stdin();
     let mut out = rt.stdout();

@@ -10,7 +10,7 @@ use walk::Marked;
 
 // What a firing leaves: the words of the marking after it, the contexts below their capacity in it, and whether the transition is a
 // forced one.
-#[derive(Drop)]
+#[derive(Clone, Copy)]
 pub struct After {
     pub marked: Marked,
     pub spare: u64,

@@ -39,7 +39,7 @@ fn answer_one<'a>(
     out: &mut [u8],
 ) -> Served
     requires runs { Runs n t (columns priority.now takes_context.now takes_pr.now takes_not.now gives_context.now gives_pr.now gives_not.now inhib_context.now inhib_pr.now) capacities.now requests.old markings.old ring }
-    requires k_in_bounds { (3 * k + 2 < length calls.now) × (5 * k + 4 < length out.old) }
+    requires call_and_answer_fit { (3 * k + 2 < length calls.now) × (5 * k + 4 < length out.old) }
     ensures { (net : Net) → Running net n t (columns priority.now takes_context.now takes_pr.now takes_not.now gives_context.now gives_pr.now gives_not.now inhib_context.now inhib_pr.now) capacities.now requests.old markings.old ring → Answered net (call_in (get_or calls.now (3 * k) 0) (get_or calls.now (3 * k + 1) 0) (get_or calls.now (3 * k + 2) 0)) counts.old requests.old markings.old ring tally counts.new requests.new markings.new result out.old (5 * k) out.new }
 {
     let s = serving::serve(
@@ -67,7 +67,7 @@ fn answer_one<'a>(
 }
 
 // What a list of calls leaves, beside its answers.
-#[derive(Drop)]
+#[derive(Clone, Copy)]
 pub struct Ending {
     pub counts: [u8; 48],
     pub tally: Tally,
@@ -103,7 +103,7 @@ fn answer_all<'a>(
     out: &mut [u8],
 ) -> Ending
     requires held { Held n t (columns priority.now takes_context.now takes_pr.now takes_not.now gives_context.now gives_pr.now gives_not.now inhib_context.now inhib_pr.now) capacities.now }
-    requires calls_in_bounds { 5 * (length calls.now / 3) ≤ length out.old }
+    requires answers_fit { 5 * (length calls.now / 3) ≤ length out.old }
     ensures { (net : Net) → Describes net n t (columns priority.now takes_context.now takes_pr.now takes_not.now gives_context.now gives_pr.now gives_not.now inhib_context.now inhib_pr.now) capacities.now → Ended net calls.now out.old result out.new }
 {
     let mut counts = [0u8; 48];

@@ -10,7 +10,7 @@ use model::{REPEATED_RELATION, Verdict, WRONG_RELATION, ZERO_CAPACITY};
 // Refusals 5, 6 and 7 of a list, and what its relations link. Callers have tested its sizes before, and nothing is linked yet.
 pub fn judge_list(capacities: &[u8], relations: &[u8], links: &mut [u64; 240]) -> Verdict
     requires capacities_len_bound { length capacities.now ≤ 48 }
-    requires linked { Linked [] links.old }
+    requires none_linked { Linked [] links.old }
     ensures { (result ≡ first_refusal (net_checks (given_net edition_1 capacities.now relations.now))) × (is_granted result ≡ true → Linked (relations_in relations.now) links.new) }
 {
     if relations::has_zero(capacities) {

@@ -13,7 +13,7 @@ use model::{SHORT_OUTPUT, Verdict, WRONG_SIZES};
 use records::{copy, write_composed, write_trailer};
 
 // What composing answers: the image's length, or the refusal's number.
-#[derive(Drop)]
+#[derive(Clone, Copy)]
 pub enum Composed {
     Length(usize),
     Refused(u8),

@@ -11,7 +11,7 @@ use model::Verdict;
 use records::copy;
 
 // The verdict of loading, and the number of bytes written.
-#[derive(Drop)]
+#[derive(Clone, Copy)]
 pub struct Listed {
     pub verdict: Verdict,
     pub written: usize,

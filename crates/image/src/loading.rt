@@ -76,7 +76,7 @@ pub fn records(image: &[u8]) -> &[u8]
 }
 
 // The verdict of loading, and the machine of the loaded net before its first call.
-#[derive(Drop)]
+#[derive(Clone, Copy)]
 pub struct Loaded {
     pub verdict: Verdict,
     pub engine: Engine,

@@ -16,6 +16,7 @@ use Rattle.model.specs.Sets.{Each, nil, cons}
 use Rattle.model.proofs.Tests.{decide, each_append}
 use Rattle.lines.specs.Decimals.{zero_sign, digit, spelled, decimal, IsDigit, Numeral, value_from, value}
 use Rattle.lines.specs.Claims.{OneNumeral}
+use Rattle.lines.proofs.Worked
 
 -- a text with the digit of d behind it
 abbrev then_digit : List ℕ → ℕ → List ℕ

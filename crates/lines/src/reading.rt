@@ -14,7 +14,7 @@ pub struct Line {
 }
 
 // What a line says: a call, or nothing that is one.
-#[derive(Drop)]
+#[derive(Clone, Copy)]
 pub enum Said {
     Ask(Call),
     Other,

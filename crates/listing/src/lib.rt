@@ -1,7 +1,7 @@
 // What the programs share that print listings to be compared with those of `reference`: a hash, reading, and text.
 #![tactic(auto)]
 
-ghost use Rattle.std.specs.Prelude.{◌≡◌, ◌≤◌, length, take};
+ghost use Rattle.std.specs.Prelude.{◌≡◌, ◌≤◌, length, replicate, take};
 ghost use Rattle.model.specs.Image.{bytes};
 ghost use Rattle.listing.specs.Hash.{folded, hashed};
 
@@ -64,7 +64,8 @@ pub fn hash_number(h: u64, x: u64, k: usize) -> u64
 
 // 65,536 zeros: more than a length of two bytes asks for.
 pub fn large_buffer() -> [u8; 65536]
-    ensures { 65536 ≡ length result }
+    ensures long { 65536 ≡ length result }
+    ensures zeros { result ≡ replicate 65536 0 }
 {
     [0; 65536]
 }

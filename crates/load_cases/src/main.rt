@@ -49,7 +49,7 @@ fn high_turned(b: u8) -> u8 {
     if b < 128 { b + 128 } else { b - 128 }
 }
 
-// The verdicts on the image with byte i turned, which is put back. The caller has i within the image.
+// The verdicts on the image with byte i turned, which is put back unless a write fails. The caller has i within the image.
 fn put_turned(out: &mut impl Write, k: usize, image: &mut [u8], i: usize) -> io::Result<usize>
     requires { i < length image.old }
 {
@@ -113,7 +113,7 @@ fn put_extended(out: &mut impl Write, image: &[u8]) -> io::Result<()>
     end_line(out, k)
 }
 
-// The verdicts on the image with every value of byte i, which is put back. The caller has i within the image.
+// The verdicts on the image with every value of byte i, which is put back unless a write fails. The caller has i within the image.
 fn put_values(out: &mut impl Write, image: &mut [u8], i: usize) -> io::Result<()>
     requires { i < length image.old }
 {

@@ -1,10 +1,12 @@
 // The public words of the machine. What they mean is in specs/: Machine.antt for the calls and their answers,
 // Refusals.antt for a verdict's number.
+#![tactic(auto)]
+
 ghost use Rattle.std.specs.Prelude.{◌≡◌};
 ghost use Rattle.model.specs.Refusals.{verdict_number};
 
 // The four calls; a request carries the number of its context.
-#[derive(Clone, Copy, Drop)]
+#[derive(Clone, Copy)]
 pub enum Call {
     Activate(usize),
     Deactivate(usize),
@@ -13,7 +15,7 @@ pub enum Call {
 }
 
 // Whether a call was granted, and with which number it was refused where it was not.
-#[derive(Clone, Copy, Drop)]
+#[derive(Clone, Copy)]
 pub enum Verdict {
     Granted,
     Refused(u8),
@@ -30,7 +32,7 @@ pub fn number(verdict: Verdict) -> u8
 }
 
 // What a call is answered: the verdict, how many transitions fired, also where they were rolled back, and how many of these were forced.
-#[derive(Clone, Copy, Drop)]
+#[derive(Clone, Copy)]
 pub struct Answer {
     pub verdict: Verdict,
     pub firings: usize,

@@ -5,7 +5,7 @@ ghost use Rattle.net.specs.Tables.{columns, row, stored};
 use transitions::Arcs;
 
 // The arrays of a whole net: the first t entries of each are in use.
-#[derive(Drop)]
+#[derive(Clone, Copy)]
 pub struct Tables {
     pub t: usize,
     pub priority: [u8; 192],

@@ -13,6 +13,7 @@ use Rattle.model.specs.Sets.{range, concat_map}
 use Rattle.model.specs.Machine.{Counts}
 use Rattle.lines.specs.Decimals.{decimal}
 use Rattle.prints.specs.Answers.{space, colon, context_text, contexts_text}
+use Rattle.prints.proofs.Worked
 
 pub idle_text : (c count : ℕ) → count ≡ 0 → context_text c count ≡ []
 unfolding context_text

@@ -112,7 +112,7 @@ fn extra_size(k: u8) -> usize
 fn same_extras(bytes: &[u8], start: usize, links: &[u64; 240], relations: &[u8]) -> bool
     requires checked { Checked relations.now }
     requires linked { Linked (relations_in relations.now) links.now }
-    requires relations_in_bounds { start + 49 * length (extra_transitions (relations_in relations.now)) ≤ length bytes.now }
+    requires records_in_bounds { start + 49 * length (extra_transitions (relations_in relations.now)) ≤ length bytes.now }
     ensures { result ≡ agrees bytes.now start (concat_map (extra_bytes (relations_in relations.now)) (relations_in relations.now)) }
 {
     let r = relations.len() / RELATION_SIZE;

@@ -95,7 +95,7 @@ fn write_extra(out: &mut [u8], at: usize, links: &[u64; 240], k: u8, a: usize, b
 fn write_extras(out: &mut [u8], start: usize, links: &[u64; 240], relations: &[u8])
     requires checked { Checked relations.now }
     requires linked { Linked (relations_in relations.now) links.now }
-    requires relations_in_bounds { start + 49 * length (extra_transitions (relations_in relations.now)) + 2 ≤ length out.old }
+    requires room { start + 49 * length (extra_transitions (relations_in relations.now)) + 2 ≤ length out.old }
     ensures { (l : List ℕ) (first : ℕ) (bytes : List ℕ) → Reaches l first bytes out.old start → Spilled l first (bytes ++ concat_map (extra_bytes (relations_in relations.now)) (relations_in relations.now)) out.new }
 {
     let r = relations.len() / RELATION_SIZE;
@@ -115,7 +115,7 @@ fn write_extras(out: &mut [u8], start: usize, links: &[u64; 240], relations: &[u
 pub fn write_composed(out: &mut [u8], at: usize, links: &[u64; 240], n: usize, relations: &[u8])
     requires composable { Composable n relations.now }
     requires linked { Linked (relations_in relations.now) links.now }
-    requires relations_in_bounds { at + 49 * length (transitions_of n (relations_in relations.now)) + 2 ≤ length out.old }
+    requires room { at + 49 * length (transitions_of n (relations_in relations.now)) + 2 ≤ length out.old }
     ensures { Spilled out.old at (concat_map (record_bytes 6) (transitions_of n (relations_in relations.now))) out.new }
 {
     write_contexts(out, at, links, n);

@@ -59,7 +59,7 @@ fn linked(links: &[u64; 240], k: u8, a: usize, b: usize) -> bool
 // linked yet.
 pub fn link_all(relations: &[u8], links: &mut [u64; 240]) -> bool
     requires checked { Checked relations.now }
-    requires linked { Linked [] links.old }
+    requires none_linked { Linked [] links.old }
     ensures { (result ≡ repeats (relations_in relations.now)) × Linked (relations_in relations.now) links.new }
 {
     let r = relations.len() / 3;

@@ -12,14 +12,14 @@ use slots::Ring;
 use state::Tally;
 
 // A call's answer, and where the open list then stands.
-#[derive(Drop)]
+#[derive(Clone, Copy)]
 pub struct Asked {
     pub answer: Answer,
     pub ring: Ring,
 }
 
 // The same with the totals.
-#[derive(Drop)]
+#[derive(Clone, Copy)]
 pub struct Served {
     pub answer: Answer,
     pub ring: Ring,
@@ -27,7 +27,7 @@ pub struct Served {
 }
 
 // The three kinds of call: a request carries whether it activates, and its context.
-#[derive(Drop)]
+#[derive(Clone, Copy)]
 pub enum Kind {
     Asks(bool, usize),
     Undoes,

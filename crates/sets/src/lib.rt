@@ -1,4 +1,6 @@
 // Sets of numbers below 64, each held in a word: bit j is 1 where j is in the set.
+#![tactic(auto)]
+
 ghost use Rattle.std.specs.Prelude.{◌≡◌, ◌<◌};
 ghost use Rattle.model.specs.Sets.{singleton, number};
 ghost use Rattle.sets.specs.Sets.{members, union, common, minus, insert, remove, within, apart, byte_of, Least};

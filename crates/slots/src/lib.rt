@@ -6,7 +6,7 @@ mod slots;
 pub use slots::{push, request_number, restore, take_back};
 
 // Where the open list stands in its ring: the oldest request's slot, and how many are open.
-#[derive(Drop)]
+#[derive(Clone, Copy)]
 pub struct Ring {
     pub first: usize,
     pub opened: usize,

@@ -72,8 +72,8 @@ pub fn push(
 // The newest open request leaves the list, and the counts from before it come back. The caller knows that one is open,
 // at most 32, and lends whole arrays.
 pub fn take_back(counts: &mut [u8; 48], markings: &[u8; 1536], ring: Ring) -> Ring
-    requires opened_nonzero { (0 < ring.opened) × (ring.opened ≤ 32) }
-    requires counts_len { (length counts.old ≡ 48) × (length markings.now ≡ 1536) }
+    requires opened_in_range { (0 < ring.opened) × (ring.opened ≤ 32) }
+    requires lengths { (length counts.old ≡ 48) × (length markings.now ≡ 1536) }
     ensures { TakenBack ring markings.now counts.new result }
 {
     let first = ring.first;

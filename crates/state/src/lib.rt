@@ -12,7 +12,7 @@ pub use tallies::{one_more, tallied};
 pub use value::{empty, fresh, shown, sound};
 
 // Primary data only, so that every value has a meaning.
-#[derive(Clone, Copy, Drop)]
+#[derive(Clone, Copy)]
 pub struct Engine {
     pub n: usize,
     pub r: usize,
@@ -33,7 +33,7 @@ pub struct Engine {
 }
 
 // The totals beside the arrays.
-#[derive(Drop)]
+#[derive(Clone, Copy)]
 pub struct Tally {
     pub granted: u32,
     pub refused: u32,
@@ -41,7 +41,7 @@ pub struct Tally {
 }
 
 // A call's answer, and the engine after it.
-#[derive(Drop)]
+#[derive(Clone, Copy)]
 pub struct Reply {
     pub answer: Answer,
     pub engine: Engine,

@@ -13,7 +13,7 @@ const STEP_LIMIT: usize = 4096;
 
 // How a step ends: the words of its marking, the firings made, how many of them were forced, and whether it is quiet, with no
 // transition enabled.
-#[derive(Drop)]
+#[derive(Clone, Copy)]
 pub struct Stepped {
     pub marked: Marked,
     pub firings: usize,

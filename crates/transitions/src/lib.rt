@@ -10,7 +10,7 @@ pub use from_links::{act_of, deac_of, extra_of};
 pub use roles::is_forced;
 
 // One transition: its priority, and a word for each of its eight sets.
-#[derive(Drop)]
+#[derive(Clone, Copy)]
 pub struct Arcs {
     pub priority: u8,
     pub takes_context: u64,

@@ -6,7 +6,7 @@ mod walk;
 pub use walk::next;
 
 // The marked places of a net, those that hold a token: a word for each kind of place, the set of its contexts.
-#[derive(Clone, Copy, Drop)]
+#[derive(Clone, Copy)]
 pub struct Marked {
     pub context: u64,
     pub pr: u64,
@@ -14,7 +14,7 @@ pub struct Marked {
 }
 
 // What a walk over the transitions finds: the number of one, or nothing.
-#[derive(Drop)]
+#[derive(Clone, Copy)]
 pub enum Found {
     At(usize),
     Nothing,

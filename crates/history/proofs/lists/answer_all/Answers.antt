@@ -21,7 +21,7 @@ answer_one-s-requires c =
         net = held.net;
         running = record { few_contexts = held.few_contexts; few_transitions = held.few_transitions; describes = held.describes; slots = inv.1; few_open = inv.2 };
       };
-      k_in_bounds = (omega (arith, test), omega (arith, test, inv.0, c.requires.calls_in_bounds));
+      call_and_answer_fit = (omega (arith, test), omega (arith, test, inv.0, c.requires.answers_fit));
     }
 
 pub overflow_add-k : goal.overflow_add-k
@@ -36,13 +36,13 @@ pub loop-k-preserved : goal.loop-k-preserved
 loop-k-preserved c =
     let inv = c.loop-k.invariant in
     let held = c.requires.held in
-    let running : (net : Net) → Describes net _ _ _ _ → Running net _ _ _ _ _ _ _ =
-    λ net d. record { few_contexts = held.few_contexts; few_transitions = held.few_transitions; describes = d; slots = inv.1; few_open = inv.2 } in
-    let made = c.answer_one-s.ensures held.net (running held.net held.describes) in
     let k = c.loop-k.k in
     let calls = c.args.calls.now in
     let test : k < length calls / 3 = omega (arith, c.loop-k-test.true) in
-    let room : 5 * k + 5 ≤ length c.args.out.now = omega (arith, test, c.requires.calls_in_bounds) in (
+    let room : 5 * k + 5 ≤ length c.args.out.now = omega (arith, test, c.requires.answers_fit) in
+    let running : (net : Net) → Describes net _ _ _ _ → Running net _ _ _ _ _ _ _ =
+    λ net d. record { few_contexts = held.few_contexts; few_transitions = held.few_transitions; describes = d; slots = inv.1; few_open = inv.2 } in
+    let made = c.answer_one-s.ensures held.net (running held.net held.describes) in (
       omega (arith, c.answer_one-s.auto, inv.0),
       made.serves.slots,
       made.serves.few_open,

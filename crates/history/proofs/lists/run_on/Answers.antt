@@ -52,7 +52,7 @@ answer_all-end-requires c =
     let whole : (length c.args.e.capacities ≡ 48) × (length c.args.e.relations ≡ 288) = search rules in
     record {
       held = held_of c.args.e whole.0 whole.1 _ c.contexts-n.ensures _ c.relation_count-m.ensures _ _ c.composed-net.ensures;
-      calls_in_bounds = omega (arith, c.if-out-n-2.false);
+      answers_fit = omega (arith, c.if-out-n-2.false);
     }
 
 pub write_state-requires : goal.write_state-requires

@@ -18,7 +18,7 @@ judge_list-requires c =
     let a = c.args in record {
       capacities_len_bound = (limits edition_1 (length a.capacities.now) (length a.relations.now / 3)
           (sym c.wrong_sizes.ensures ∙ or_false_left c.wrong_sizes.result (not (eqb (length a.relations.now % 3) 0)) c.if-wrong_sizes-length.false)).contexts;
-      linked = c.requires;
+      none_linked = c.requires;
     }
 
 pub returns : goal.returns

@@ -20,7 +20,7 @@ write_composed-requires c =
     record {
       composable = p.composable;
       linked = c.requires.linked;
-      relations_in_bounds = omega (arith, p.room, p.count, c.copy-2.auto.out, c.copy.auto.out);
+      room = omega (arith, p.room, p.count, c.copy-2.auto.out, c.copy.auto.out);
     }
 
 pub write_trailer-requires : goal.write_trailer-requires

@@ -18,7 +18,7 @@ judge_list-requires c =
     let n = length_capacities c.args.image.now (trailer_as c.args.trailer) c.requires c.wide-n.result c.wide-n.ensures.same in
     record {
       capacities_len_bound = omega (arith, n, c.requires.contexts, c.wide-n.ensures.same);
-      linked = linked_none;
+      none_linked = linked_none;
     }
 
 pub returns-in-Refused : goal.returns-in-Refused

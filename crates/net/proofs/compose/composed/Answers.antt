@@ -5,7 +5,7 @@ use Rattle.net.proofs.compose.composed.Goals as goal
 
 pub link_all-requires : goal.link_all-requires
 link_all-requires c =
-    let p = c.requires in record { checked = record { n = _; few = p.few; fits = p.fits }; linked = linked_none }
+    let p = c.requires in record { checked = record { n = _; few = p.few; fits = p.fits }; none_linked = linked_none }
 
 pub fill-t-requires : goal.fill-t-requires
 fill-t-requires c =

@@ -44,7 +44,7 @@ same_extras-requires c =
     let p = c.requires.composable in record {
       checked = record { n = c.args.n; few = p.few; fits = p.fits };
       linked = c.requires.linked;
-      relations_in_bounds = omega (arith, length_composed (relations_in c.args.relations.now) c.args.n, c.requires.bytes_len);
+      records_in_bounds = omega (arith, length_composed (relations_in c.args.relations.now) c.args.n, c.requires.bytes_len);
     }
 
 pub returns : goal.returns

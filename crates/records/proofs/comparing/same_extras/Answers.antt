@@ -28,7 +28,7 @@ pub loop-i-init : goal.loop-i-init
 loop-i-init c =
     let a = c.args in
     let rels = relations_in a.relations.now in
-    (omega arith, rest_all (extra_bytes rels) rels a.bytes.now a.start (omega (arith, length_extras rels, c.requires.relations_in_bounds)))
+    (omega arith, rest_all (extra_bytes rels) rels a.bytes.now a.start (omega (arith, length_extras rels, c.requires.records_in_bounds)))
 
 pub same_extra-requires : goal.same_extra-requires
 same_extra-requires c =

@@ -13,7 +13,7 @@ use Rattle.records.proofs.writing.write_composed.Goals as goal
 
 pub write_contexts-requires : goal.write_contexts-requires
 write_contexts-requires c =
-    (c.requires.composable.few, omega (arith, c.requires.relations_in_bounds, transition_total c.args.n (relations_in c.args.relations.now)))
+    (c.requires.composable.few, omega (arith, c.requires.room, transition_total c.args.n (relations_in c.args.relations.now)))
 
 pub write_extras-requires : goal.write_extras-requires
 unfolding extra_transitions
@@ -22,10 +22,10 @@ write_extras-requires c =
     record {
       checked = record { n = c.args.n; few = p.few; fits = p.fits };
       linked = c.requires.linked;
-      relations_in_bounds =
+      room =
           omega (
             arith,
-            c.requires.relations_in_bounds,
+            c.requires.room,
             transition_total c.args.n (relations_in c.args.relations.now),
             c.write_contexts.auto.out,
           );

@@ -33,7 +33,7 @@ write_extra-at-requires c =
       here.next_is,
       length_added rels (first_relations i l),
       more,
-      c.requires.relations_in_bounds,
+      c.requires.room,
       c.loop-i.invariant.1,
     ) in
     let few = c.requires.checked.few in

@@ -22,7 +22,7 @@ within to =
 pub loop-i-init : goal.loop-i-init
 unfolding repeats_after
 loop-i-init c =
-    (omega arith, c.requires.linked, refl)
+    (omega arith, c.requires.none_linked, refl)
 
 pub linked-repeated-requires : goal.linked-repeated-requires
 linked-repeated-requires c =

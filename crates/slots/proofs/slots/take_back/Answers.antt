@@ -14,6 +14,6 @@ returns c =
     let at : c.slot_at-s.result < 32 = omega (arith, c.slot_at-s.ensures) in
     record {
       counts = c.restore.ensures ∙ ap (λ (s : ℕ). row a.markings.now s) c.slot_at-s.ensures;
-      long = ap length c.restore.ensures ∙ row_long a.markings.now c.slot_at-s.result c.requires.counts_len.1 at;
+      long = ap length c.restore.ensures ∙ row_long a.markings.now c.slot_at-s.result c.requires.lengths.1 at;
       ring = refl;
     }

@@ -19,7 +19,7 @@ take_back-ring-requires c =
     let e = c.args.e in
     let counts : length e.counts ≡ 48 = search rules in
     let markings : length e.markings ≡ 1536 = search rules in
-    record { opened_nonzero = (omega arith, open_limited e c.shown-opened.result c.shown-opened.ensures); counts_len = (counts, markings) }
+    record { opened_in_range = (omega arith, open_limited e c.shown-opened.result c.shown-opened.ensures); lengths = (counts, markings) }
 
 pub returns : goal.returns
 returns c =
