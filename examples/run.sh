@@ -24,7 +24,7 @@ case ${BOARD_LIB:-} in
 esac
 CDPATH='' cd -- "$(dirname -- "$0")/.."
 if [ -z "${BOARD_LIB:-}" ]; then
-    (cd crates/board_c && rt lib)
+    (cd crates/board_c && rt lib >&2)
     mkdir -p target/staticlib
     cp crates/board_c/out/libboard_c.a target/staticlib/libboard.a
     BOARD_LIB=target/staticlib/libboard.a
