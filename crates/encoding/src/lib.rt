@@ -31,6 +31,7 @@ pub fn call_at(calls: &[u8], i: usize) -> Call
 }
 
 // Whether the bytes are whole calls, each of the four.
+#[tactic(auto, using(crate::proofs::Calling::calls_torn, crate::proofs::Calling::calls_unknown, crate::proofs::Calling::calls_known, crate::proofs::Calling::calls_whole))]
 pub fn are_calls(calls: &[u8]) -> bool
     ensures { result ≡ not (no_calls calls.now) }
 {

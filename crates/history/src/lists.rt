@@ -115,7 +115,7 @@ fn answer_all<'a>(
     };
     let mut tally = no_totals();
     let mut k = 0;
-    while k < calls.len() / 3 {
+    'list: while k < calls.len() / 3 {
         let s = answer_one(
             priority,
             takes_context,

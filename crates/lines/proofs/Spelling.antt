@@ -55,6 +55,15 @@ module _ (c b : ℕ) where
       let q = t.found (w / 10) (omega arith) s.1 in
       omega arith)
 
+  -- a text that is no number's
+  pub extends_other : c ≡ 256 → Extends c b 256
+  extends_other l text p t =
+      reads_none (text ++ (b ∷ []))
+      (λ w h e.
+      let s = decimal_split w text b p e in
+      let q = t.found (w / 10) (omega arith) s.1 in
+      omega arith)
+
   module _ (d : ℕ) (e : Reads (b ∷ []) d) where
     pub extends_number : (c ≡ 0 → ⊥) → 10 * c + d < 256 → Extends c b (10 * c + d)
     extends_number nz h text p t =

@@ -125,6 +125,7 @@ fn first(b: u8) -> usize
 }
 
 // The number that a text read as c and one digit behind it spell. None begins with a zero, so c is not 0.
+#[tactic(auto, using(crate::proofs::Spelling::extends_zero, crate::proofs::Spelling::extends_other))]
 fn extend(c: usize, b: u8) -> usize
     requires { c ≤ 256 }
     ensures { Extends c b result }

@@ -1,20 +1,25 @@
 -- Laws of texts stored in a buffer one behind the other.
 -- Assumes nothing.
-use Prim.Native.Nat.{ℕ, suc, ◌+◌, ◌^◌, ◌<◌, ◌≤◌}
+use Prim.Native.Nat.{ℕ, suc, ◌+◌, ◌/◌, ◌^◌, ◌<◌, ◌≤◌}
 use native.Mathlib.Nat.{add-zero}
 use native.Mathlib.Omega.{arith}
 use mathlib.Core.Path.{◌≡◌, refl, sym, ap, subst, ◌∙◌}
+use mathlib.Core.Logic.{⊎_elim}
+use mathlib.Core.Bool.{true, false}
 use mathlib.Core.List.{List, [], ◌∷◌, ◌++◌}
+use lib.Dec.{ltb}
 use lib.ListN.{length, drop, set, length-append}
 use lib.Seq.{sets, length-sets, sets-eq}
+use borrow.Author.Tests.{ltb-true, ltb-false}
 use Rattle.model.specs.Refusals.{verdict_number}
 use Rattle.model.specs.Machine.{Counts}
 use Rattle.model.specs.declared.Call.{Call}
 use Rattle.model.specs.declared.Verdict.{Verdict}
+use Rattle.model.proofs.Tests.{decide}
 use Rattle.lines.specs.Decimals.{decimal}
 use Rattle.lines.specs.Calls.{call_text}
 use Rattle.prints.specs.Answers.{space, colon, line_end, context_text, contexts_text, answer_text, Written, Stored}
-use Rattle.lines.proofs.Decimals.{decimal_length}
+use Rattle.lines.proofs.Decimals.{decimal_small, decimal_not_empty, decimal_length, length_large}
 use Rattle.prints.proofs.Contexts.{idle_text, active_text}
 
 sets_append : (l : List ℕ) (i : ℕ) (xs ys : List ℕ) → sets (sets l i xs) (i + length xs) ys ≡ sets l i (xs ++ ys)
@@ -53,6 +58,19 @@ length_word n h = decimal_length 19 n (omega arith)
 
 pub length_byte : (n : ℕ) → n < 256 → length (decimal n) ≤ 3
 length_byte n h = decimal_length 2 n (omega arith)
+
+-- a tenth of a number has no more digits than the number
+pub length_tenth : (n : ℕ) → length (decimal (n / 10)) ≤ length (decimal n)
+length_tenth n = ⊎_elim small large (decide (ltb n 10))
+  where
+    small : ltb n 10 ≡ true → length (decimal (n / 10)) ≤ length (decimal n)
+    small t =
+        let l = ltb-true n 10 t in
+        let z : n / 10 ≡ 0 = omega arith in
+        omega (arith, decimal_not_empty n, ap (λ (k : ℕ). length (decimal k)) z, ap (length {A = ℕ}) (decimal_small 0 (omega arith)))
+
+    large : ltb n 10 ≡ false → length (decimal (n / 10)) ≤ length (decimal n)
+    large t = omega (arith, length_large n (ltb-false n 10 t))
 
 -- a sign and a number of 64 bits, from a place up to m on, take at most 21 bytes
 pub number_fits : {at m size n : ℕ} → at ≤ m → n < 2 ^ 64 → m + 21 ≤ size → at + suc (length (decimal n)) ≤ size

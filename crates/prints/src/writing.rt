@@ -70,6 +70,7 @@ fn counted(n: usize) -> usize
 }
 
 // A context and its count, where it is active.
+#[tactic(auto, using(crate::proofs::Contexts::idle_text))]
 fn put_context(out: &mut [u8], at: usize, c: usize, count: u8) -> usize
     requires { (at + 7 ≤ length out.old) × (c < 100) }
     ensures { Stored out.old at (context_text c count) out.new result × (result ≤ at + 7) }
@@ -91,6 +92,7 @@ fn put_number(out: &mut [u8], at: usize, sign: u8, number: usize) -> usize
 }
 
 // A number in decimal: the digits but the last are those of a tenth of it.
+#[tactic(auto, using(lines::proofs::Decimals::decimal_small))]
 fn put_decimal(out: &mut [u8], at: usize, number: usize) -> usize
     requires { at + length (decimal number) ≤ length out.old }
     ensures { Stored out.old at (decimal number) out.new result }

@@ -10,7 +10,7 @@ use mathlib.Core.Logic.{⊎_elim}
 use lib.Dec.{ltb}
 use lib.ListN.{length, get_or, take, drop, set, length-take, length-drop, length-set, get_or-eq_default}
 use lib.Seq.{get_or-take, get_or-drop, get_or-set_same, get_or-set_other, length-take-le, take_all, length-paste}
-use borrow.Author.Tests.{ltb-true, ltb-false}
+use borrow.Author.Tests.{lt-ltb, ltb-true, ltb-false}
 use Rattle.model.proofs.Tests.{decide}
 use Rattle.slots.proofs.Copies.{copy_within, copy_before, copy_behind}
 use Rattle.model.specs.Machine.{Entry, open_limit}
@@ -160,3 +160,17 @@ pushed ring₀ item counts requests₀ markings₀ requests₁ markings₁ ring�
           subst₂ (Lengths counts) (sym p') (sym q') (lengths_kept requests₀ markings₀ counts ring₀.first ring₀.opened item long);
       list = ap₂ (λ (a b : List ℕ). entries a b ring₁.first ring₁.opened) p' q' ∙ l;
     }
+
+-- the same with a slot free
+pub pushed_free : (ring₀ : Ring) (item : ℕ) (counts requests₀ markings₀ requests₁ markings₁ : List ℕ) (ring₁ : Ring) → Lengths counts requests₀ markings₀
+    → requests₁ ≡ set requests₀ (slot ring₀.first ring₀.opened) item → markings₁ ≡ stored markings₀ (slot ring₀.first ring₀.opened) counts
+    → ring₀.opened < open_limit → ring₁ ≡ record { first = ring₀.first; opened = ring₀.opened + 1 }
+    → Pushed ring₀ item counts requests₀ markings₀ requests₁ markings₁ ring₁
+pushed_free ring₀ item counts requests₀ markings₀ requests₁ markings₁ ring₁ long p q h e =
+    let free : Ring = record { first = ring₀.first; opened = ring₀.opened + 1 } in
+    let full : Ring = record { first = slot ring₀.first 1; opened = 32 } in
+    let made : ring₁ ≡ joined ring₀ = e ∙ ap (λ (t : Bool). cond t free full) (sym (lt-ltb ring₀.opened 32 h)) in
+    let s : ℕ = slot ring₀.first ring₀.opened in
+    pushed ring₀ item counts requests₀ markings₀ requests₁ markings₁ ring₁ s long refl p q made
+    (ap (λ (r : Ring). entries (set requests₀ s item) (stored markings₀ s counts) r.first r.opened) e
+    ∙ joins_free requests₀ markings₀ counts ring₀.first ring₀.opened item long h)

@@ -41,6 +41,7 @@ pub fn restore(counts: &mut [u8; 48], markings: &[u8; 1536], s: usize)
 
 // A request joins the open list's end, with the counts from before it. Where 32 were open, the oldest falls out.
 // The caller lends whole arrays, and at most 32 are open.
+#[tactic(auto, using(crate::proofs::Rings::pushed_free))]
 pub fn push(
     counts: &[u8; 48],
     requests: &mut [u16; 32],

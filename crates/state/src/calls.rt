@@ -7,6 +7,7 @@ use model::{Answer, NOTHING_OPEN, Verdict};
 use slots::Ring;
 
 // Takes back the newest open request. A value that is not sound has nothing open.
+#[tactic(auto, using(crate::proofs::Replying::undo_refused))]
 pub fn undo(mut e: Engine) -> Reply
     ensures { Replies Undo e result }
 {

@@ -18,6 +18,7 @@ fn misfits_among(relations: &[u8], r: usize, n: usize) -> bool
 }
 
 // Whether an engine with these fields is one that loading and calls make. The caller lends the whole array.
+#[tactic(auto, unfolding(crate::specs::View::sound_in))]
 pub fn sound(n: usize, r: usize, relations: &[u8; 288], opened: usize) -> bool
     requires { length relations.now ≡ 288 }
     ensures { result ≡ sound_in n r relations.now opened }

@@ -7,13 +7,13 @@ use native.Mathlib.Decide.{ℕ_discrete}
 use native.Mathlib.Omega.{arith}
 use mathlib.Core.Path.{◌≡◌, refl, sym, ap, ◌∙◌}
 use mathlib.Core.List.{List, [], ◌∷◌, ◌++◌, append_assoc, append-nil}
-use lib.ListN.{length, length-append}
+use lib.ListN.{length, get_or, length-append}
 use borrow.Author.Tests.{ne_eqb}
 use Rattle.model.specs.Sets.{concat_map, range, singleton, empty_set}
 use Rattle.model.specs.Relations.{Relation, excludes, causes, implies, requires, suggests, last_kind}
 use Rattle.model.specs.Transitions.{drop_of, decline_of, forced, extra, extra_transitions, context_transitions, transitions_of}
 use Rattle.model.proofs.Sizes.{length_concat_map, length_range, length_extras}
-use Rattle.relations.specs.Reading.{relation, relation_at, first_relations}
+use Rattle.relations.specs.Reading.{relation, relation_at, first_relations, relations_in}
 use Rattle.relations.proofs.Reading.{first_more, length_first}
 
 concat_map_snoc {ℓ κ} : {A : Type ℓ} {B : Type κ} (f : A → List B) (xs : List A) (x : A) → concat_map f (xs ++ (x ∷ [])) ≡ concat_map f xs ++ f x
@@ -86,3 +86,23 @@ unfolding transitions_of extra_transitions context_transitions
 transition_total n rels =
     length-append (concat_map (context_transitions rels) (range 0 n)) (concat_map (extra rels) rels)
     ∙ omega (arith, length_concat_map (context_transitions rels) 2 (λ _. refl) (range 0 n), length_range 0 n)
+
+-- one relation more: as many transitions more as its kind has
+module _ (bs : List ℕ) (i : ℕ) where
+  one_more : length (concat_map (extra (relations_in bs)) (first_relations (i + 1) bs))
+      ≡ length (concat_map (extra (relations_in bs)) (first_relations i bs)) + length (extra (relations_in bs) (relation_at bs i))
+  one_more =
+      let rels = relations_in bs in
+      ap length (extras_more rels bs i) ∙ length-append (concat_map (extra rels) (first_relations i bs)) (extra rels (relation_at bs i))
+
+  pub counts_one : causes ≤ get_or bs (3 * i) 0 → get_or bs (3 * i) 0 ≤ last_kind
+      → length (concat_map (extra (relations_in bs)) (first_relations (i + 1) bs)) ≡ length (concat_map (extra (relations_in bs)) (first_relations i bs)) + 1
+  counts_one p q =
+      let x = relation_at bs i in
+      omega (arith, one_more, extra_one (relations_in bs) x.kind x.a x.b p q)
+
+  pub counts_none : (causes ≤ get_or bs (3 * i) 0 → get_or bs (3 * i) 0 ≤ last_kind → ⊥)
+      → length (concat_map (extra (relations_in bs)) (first_relations (i + 1) bs)) ≡ length (concat_map (extra (relations_in bs)) (first_relations i bs))
+  counts_none h =
+      let x = relation_at bs i in
+      omega (arith, one_more, extra_outside (relations_in bs) x.kind x.a x.b h)

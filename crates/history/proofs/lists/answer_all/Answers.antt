@@ -8,14 +8,14 @@ use Rattle.serving.specs.Serving.{Running}
 use Rattle.history.proofs.Leading.{led_none, led_next, led_all}
 use Rattle.history.proofs.lists.answer_all.Goals as goal
 
-pub loop-k-init : goal.loop-k-init
-loop-k-init c =
+pub list-init : goal.list-init
+list-init c =
     (refl, record { of_requests = refl; of_markings = refl }, omega arith, λ net d. led_none net _ _ c.no_totals-tally.ensures)
 
 pub answer_one-s-requires : goal.answer_one-s-requires
 answer_one-s-requires c =
-    let test = c.loop-k-test.true in
-    let inv = c.loop-k.invariant in
+    let test = c.list-test.true in
+    let inv = c.list.invariant in
     let held = c.requires.held in record {
       runs = record {
         net = held.net;
@@ -26,19 +26,19 @@ answer_one-s-requires c =
 
 pub overflow_add-k : goal.overflow_add-k
 overflow_add-k c =
-    omega (arith, c.loop-k-test.true)
+    omega (arith, c.list-test.true)
 
-pub loop-k-smaller : goal.loop-k-smaller
-loop-k-smaller c =
-    omega (arith, c.loop-k-test.true)
+pub list-smaller : goal.list-smaller
+list-smaller c =
+    omega (arith, c.list-test.true)
 
-pub loop-k-preserved : goal.loop-k-preserved
-loop-k-preserved c =
-    let inv = c.loop-k.invariant in
+pub list-preserved : goal.list-preserved
+list-preserved c =
+    let inv = c.list.invariant in
     let held = c.requires.held in
-    let k = c.loop-k.k in
+    let k = c.list.k in
     let calls = c.args.calls.now in
-    let test : k < length calls / 3 = omega (arith, c.loop-k-test.true) in
+    let test : k < length calls / 3 = omega (arith, c.list-test.true) in
     let room : 5 * k + 5 ≤ length c.args.out.now = omega (arith, test, c.requires.answers_fit) in
     let running : (net : Net) → Describes net _ _ _ _ → Running net _ _ _ _ _ _ _ =
     λ net d. record { few_contexts = held.few_contexts; few_transitions = held.few_transitions; describes = d; slots = inv.1; few_open = inv.2 } in
@@ -51,4 +51,4 @@ loop-k-preserved c =
 
 pub returns : goal.returns
 returns c =
-    λ net d. led_all net _ c.loop-k.k c.loop-k-test.false _ _ _ _ _ _ _ (c.loop-k.invariant.3 net d)
+    λ net d. led_all net _ c.list.k (omega (arith, c.list-test.false)) _ _ _ _ _ _ _ (c.list.invariant.3 net d)

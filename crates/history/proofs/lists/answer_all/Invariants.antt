@@ -10,12 +10,12 @@ use Rattle.encoding.specs.Encoding.{calls_in}
 use Rattle.history.specs.Running.{Led}
 use Rattle.history.proofs.lists.answer_all.Given as goal
 
-abbrev pub invariant-loop-k : goal.invariant-loop-k
-invariant-loop-k l = (length l.out ≡ length l.initial.out)
+abbrev pub invariant-list : goal.invariant-list
+invariant-list l = (length l.out ≡ length l.initial.out)
     × Slots l.requests l.markings
     × (l.ring.opened ≤ 32)
     × ((net : Net) → Describes net l.n l.t (columns l.priority l.takes_context l.takes_pr l.takes_not l.gives_context l.gives_pr l.gives_not l.inhib_context l.inhib_pr) l.capacities
     → Led net (take l.k (calls_in l.calls)) l.counts l.requests l.markings l.ring l.tally l.initial.out l.out)
 
-abbrev pub decreases-loop-k : goal.decreases-loop-k
-decreases-loop-k l = length l.calls - l.k
+abbrev pub decreases-list : goal.decreases-list
+decreases-list l = length l.calls - l.k

@@ -1,10 +1,8 @@
+-- An idle context's text is empty, by the lemma at the function; an active one's is its number and its count.
 use native.Mathlib.Omega.{arith}
 use Rattle.lines.proofs.Decimals.{decimal_length}
-use Rattle.prints.proofs.Storing.{stored_idle, stored_active, stored_length, length_byte}
+use Rattle.prints.proofs.Storing.{stored_active, stored_length, length_byte}
 use Rattle.prints.proofs.writing.put_context.Goals as goal
-
-pub returns-then-count-eq0 : goal.returns-then-count-eq0
-returns-then-count-eq0 c = stored_idle c.args.out.now c.args.at c.args.c c.args.count c.if-count-eq0.true
 
 pub put_number-end-requires : goal.put_number-end-requires
 put_number-end-requires c = omega (arith, decimal_length 1 c.args.c (omega arith))
@@ -22,5 +20,5 @@ put_number-requires c =
 
 pub returns : goal.returns
 returns c =
-    stored_active c.args.c c.args.count c.if-count-eq0.false c.requires.1 (omega arith) c.put_number-end.ensures
+    stored_active c.args.c c.args.count (omega arith) c.requires.1 (omega arith) c.put_number-end.ensures
     c.put_number.ensures

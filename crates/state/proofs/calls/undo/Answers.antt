@@ -6,13 +6,8 @@ use lib.ListN.{length}
 use borrow.Author.Rules.{rules}
 use Rattle.state.specs.View.{tally_of}
 use Rattle.state.proofs.Raising.{Below}
-use Rattle.state.proofs.Replying.{undo_refused, open_limited, undo_done}
+use Rattle.state.proofs.Replying.{open_limited, undo_done}
 use Rattle.state.proofs.calls.undo.Goals as goal
-
-pub returns-then-opened-eq0 : goal.returns-then-opened-eq0
-returns-then-opened-eq0 c =
-    let below : Below (tally_of c.args.e) = search rules in
-    undo_refused c.args.e c.shown-opened.result c.one_more.result c.shown-opened.ensures c.if-opened-eq0.true below c.one_more.ensures
 
 pub take_back-ring-requires : goal.take_back-ring-requires
 take_back-ring-requires c =
@@ -24,7 +19,7 @@ take_back-ring-requires c =
 pub returns : goal.returns
 returns c =
     let below : Below (tally_of c.args.e) = search rules in
-    undo_done c.args.e c.shown-opened.result c.take_back-ring.new.counts c.take_back-ring.result c.one_more-2.result c.shown-opened.ensures c.if-opened-eq0.false
+    undo_done c.args.e c.shown-opened.result c.take_back-ring.new.counts c.take_back-ring.result c.one_more-2.result c.shown-opened.ensures (λ none. omega arith)
     c.take_back-ring.ensures
     below
     c.one_more-2.ensures
