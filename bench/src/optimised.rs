@@ -1,4 +1,4 @@
-//! The optimised side: the papers' machine behind the same four functions
+//! The optimised side: the machine of docs/MACHINE.md behind the same four functions
 //! as the proved engine. Sets are bit masks, the transitions are
 //! composed once per list of calls, and no call allocates.
 

@@ -136,17 +136,17 @@ fn star() -> Vec<Job> {
     vec![Job::run(&nets::star_of_exclusions(48), &calls)]
 }
 
-/// The paper's calls, then random ones.
+/// The worked example's calls, then random ones.
 fn six() -> Vec<Job> {
     let net = nets::six_conditions();
-    let mut calls = paper_calls();
+    let mut calls = example_calls();
     calls.extend(random::calls(&mut Random::new(6), &net, 2_000));
     vec![Job::run(&net, &calls)]
 }
 
 /// The example of bench-run and the cases P1 to P8, one behind the other
 /// instead of each on a fresh net.
-fn paper_calls() -> Vec<Call> {
+fn example_calls() -> Vec<Call> {
     let on = Call::Activate;
     let off = Call::Deactivate;
     let (undo, settle) = (Call::Undo, Call::Settle);

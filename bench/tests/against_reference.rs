@@ -1,5 +1,5 @@
 //! The optimised side against the reference implementation: random nets and
-//! calls, damaged images, every refusal, the paper's examples.
+//! calls, damaged images, every refusal, the worked examples.
 
 use bench::job::Job;
 use bench::nets::{self, Call, Description};
@@ -358,9 +358,9 @@ fn refusals_keep_their_order() {
     assert_eq!(compose(&[7], &[], 106), 8);
 }
 
-/// The cases P1 to P8 of the paper.
+/// The cases of the six conditions.
 #[test]
-fn the_papers_cases() {
+fn the_six_conditions_cases() {
     let last = |calls: &[i32]| *six(calls).0.last().expect("an answer");
     let counts = |calls: &[i32]| six(calls).1;
     assert_eq!(last(&[1]), (12, 0, 0));

@@ -1,4 +1,4 @@
-//! Nets that document 01 names, and nets that sit at its edges.
+//! Nets that docs/MACHINE.md names, and nets that sit at its edges.
 
 use crate::image::compose;
 

@@ -1,4 +1,4 @@
-//! The context Petri net machine of documents 01 and 02, written for
+//! The context Petri net machine of docs/MACHINE.md, written for
 //! comparison: plain and readable, with no regard for speed beyond the necessary.
 
 pub mod bench_run;

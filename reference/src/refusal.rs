@@ -1,4 +1,4 @@
-//! The refusals by their numbers in documents 01 and 02.
+//! The refusals by their numbers.
 
 /// Stands where a refusal's number would, when nothing was refused.
 pub const GRANTED: u8 = 0;

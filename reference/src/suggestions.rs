@@ -1,4 +1,4 @@
-//! Small nets with suggestions (document 02, request c) and what each call on
+//! Small nets with suggestions and what each call on
 //! them gives, worked out by hand.
 
 use crate::examples::{Description, CAUSES, EXCLUDES, IMPLIES, REQUIRES, SUGGESTS};

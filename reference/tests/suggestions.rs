@@ -1,4 +1,4 @@
-//! Request c of document 02: suggestions, and the refusal that comes with them.
+//! Suggestions, and the refusal that comes with them.
 
 use reference::examples::{ring, Description, CAUSES, EXCLUDES, IMPLIES, REQUIRES, SUGGESTS};
 use reference::net::{Kind, Relation, Transition};

@@ -1,6 +1,8 @@
-// The calls on an engine's value.
+//! The engine: a net with its counts, its open list and its totals. How it is read as the machine's state is in specs/View.antt.
 #![tactic(auto)]
 
-mod calls;
+mod engine;
+mod open_list;
 
-pub use calls::perform;
+pub use engine::Engine;
+pub use open_list::{Entry, OpenList};

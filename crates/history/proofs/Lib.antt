@@ -1,3 +1,5 @@
+pub mod Calling
 pub mod Chains
-pub mod Leading
+pub mod Putting
+pub mod Ran
 pub mod Reporting

@@ -1,22 +1,21 @@
--- Demand 3 about the code: what holds of the engine after every list of calls on a freshly loaded net.
+-- What holds of the engine after every list of calls on a freshly loaded net (docs/MACHINE.md, "Lists of calls").
 -- Assumes nothing.
 use Rattle.std.specs.Prelude.{ℕ, ◌≡◌, List, [], ◌∷◌, map}
 use Rattle.model.specs.Relations.{Net}
 use Rattle.model.specs.Machine.{Event, State, zeros, fresh, after, log, replayed_calls}
 use Rattle.model.specs.Image.{edition_1, load}
-use Rattle.model.specs.Claims.{Demand3, Rules, ending, events}
+use Rattle.model.specs.Claims.{ListHolds, Rules, ending, events}
 use Rattle.model.specs.declared.Call.{Call}
 use Rattle.model.specs.declared.Answer.{Answer}
-use Rattle.state.specs.View.{Replies, Shows, counts_of, tally_of}
-use Rattle.state.specs.declared.Engine.{Engine}
-use Rattle.state.specs.declared.Reply.{Reply}
+use Rattle.engine.specs.View.{Replies, Shows, counts_of, tally_of}
+use Rattle.engine.specs.declared.engine.Engine.{Engine}
 
 -- A chain of calls from one engine to another, whoever makes them: each call gets the engine that the one before left, and what it
 -- gives back meets the contract of a call. These are the answers, in order.
 pub data Chain : Engine → List Call → List Answer → Engine → Type 0 where
   none_left : {e : Engine} → Chain e [] [] e
-  then : {e last : Engine} {c : Call} {cs : List Call} {answers : List Answer}
-      (reply : Reply) → Replies c e reply → Chain reply.engine cs answers last → Chain e (c ∷ cs) (reply.answer ∷ answers) last
+  then : {e next last : Engine} {c : Call} {cs : List Call} {answer : Answer} {answers : List Answer}
+      → Replies c e next answer → Chain next cs answers last → Chain e (c ∷ cs) (answer ∷ answers) last
 
 -- the net that an image gives, accepted or refused
 abbrev pub loaded : List ℕ → Net
@@ -43,4 +42,4 @@ pub record Kept (img : List ℕ) (cs : List Call) (answers : List Answer) (engin
   pub rules : Rules (loaded img) (counts_of engine)
   -- and all else that the model's theorem says: each request of the history granted again with the counts that it had, every granted step
   -- ended with empty temporary places, at most 32 open, totals that count the answers
-  pub machine : Demand3 (loaded img) zeros cs
+  pub machine : ListHolds (loaded img) zeros cs

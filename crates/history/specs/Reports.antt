@@ -1,24 +1,29 @@
 -- What `run` writes for a list of calls in bytes: the answers, then the state after them.
 -- Assumes nothing.
 use Rattle.std.specs.Prelude.{ℕ, ◌||◌, cond, List, ◌++◌, map, ltb, length, drop}
-use Rattle.model.specs.Sets.{concat_map, range}
-use Rattle.model.specs.Relations.{Net, size}
+use Rattle.model.specs.Sets.{concat_map}
+use Rattle.model.specs.Relations.{Net}
 use Rattle.model.specs.Machine.{State, Event, fresh, after, log}
 use Rattle.model.specs.declared.Call.{Call}
-use Rattle.encoding.specs.Encoding.{calls_in, no_calls, answer_bytes, tally_bytes}
+use Rattle.engine.specs.View.{listed_counts}
+use Rattle.history.specs.Encoding.{calls_in, no_calls, answer_bytes, tally_bytes}
 use Rattle.history.specs.Chains.{loaded}
 
 -- the count of each context, and the totals
 abbrev pub state_bytes : State → List ℕ
-state_bytes s = map s.board.counts (range 0 (size s.board.net)) ++ tally_bytes s.tally
+state_bytes s = listed_counts s ++ tally_bytes s.tally
 
--- the answers to calls on the machine of a net before its first call, as bytes
-abbrev pub answers_of : Net → List Call → List ℕ
-answers_of net cs = concat_map answer_bytes (map (λ (e : Event). e.answer) (log (fresh net) cs))
+-- the answers to calls on a machine, as bytes
+abbrev pub answers_from : State → List Call → List ℕ
+answers_from s cs = concat_map answer_bytes (map (λ (e : Event). e.answer) (log s cs))
 
--- what is reported of a list of calls on that machine: the answers in order, then the state after them
-unfoldable pub report : Net → List Call → List ℕ
-report net cs = answers_of net cs ++ state_bytes (after (fresh net) cs)
+-- what is reported of a list of calls on a machine: the answers in order, then the state after them
+unfoldable pub report_from : State → List Call → List ℕ
+report_from s cs = answers_from s cs ++ state_bytes (after s cs)
+
+-- the same on the machine of a net before its first call
+abbrev pub report : Net → List Call → List ℕ
+report net cs = report_from (fresh net) cs
 
 -- the bytes written, and what the output then holds
 pub record Ran : Type 0 where

@@ -1,5 +1,10 @@
-pub mod Given
-pub mod Answering
-pub mod Engines
+pub mod Layouts
+pub mod Words
+pub mod Compared
+pub mod Spills
+pub mod Blocks
+pub mod Verdicts
+pub mod Givens
+pub mod Loads
 pub mod Lists
 pub mod Roundtrip

@@ -1,67 +1,24 @@
--- The list of a granted image: n, r, and the image's first n + 3r bytes.
+-- What is listed, by the verdict of loading and by whether there is room.
 -- Assumes nothing.
-use Prim.Native.Nat.{ℕ, ◌+◌, ◌-◌, ◌*◌, ◌<◌, ◌≤◌}
-use native.Mathlib.Omega.{arith}
-use mathlib.Core.Path.{◌≡◌, refl, sym, ap, ap₂, ◌∙◌}
-use mathlib.Core.Bool.{Bool, ◌&&◌, cond}
-use mathlib.Core.List.{List, ◌∷◌, ◌++◌}
-use lib.Dec.{leb}
-use borrow.Author.Tests.{le-leb, lt-leb}
-use lib.ListN.{length, take, drop, length-drop}
-use lib.Seq.{take-add}
-use Rattle.model.specs.Sets.{Each, IsByte, concat_map}
+use Rattle.std.proofs.Common.{◌≡◌, ℕ, ◌+◌, ◌<◌, ◌≤◌, Bool, cond, ◌&&◌, List, ◌++◌, leb, length, get_or, drop, arith, subst, sym, ap, ap₂, ◌∙◌, le-leb}
+use borrow.Author.Tests.{lt-leb}
 use Rattle.model.specs.Refusals.{is_granted}
-use Rattle.model.specs.Image.{Trailer, edition_1, relation_bytes, read_relations, trailer_of, net_of, load}
+use Rattle.model.specs.Image.{edition_1, relation_bytes, load}
+use Rattle.model.specs.declared.Refusal.{Refusal}
 use Rattle.model.specs.declared.Verdict.{Verdict}
 use Rattle.model.specs.declared.Verdict.TheVariants.{Granted, Refused}
-use Rattle.model.proofs.Tests.{each_drop}
-use Rattle.model.proofs.Accepts.{length_read, relations_written}
-use Rattle.records.specs.Bytes.{put}
-use Rattle.layout.specs.Layout.{LaidOut}
+use Rattle.model.specs.Sets.{Each, IsByte, concat_map}
+use Rattle.model.specs.Relations.{Net}
+use Rattle.image.specs.Trailers.{trailer_as}
+use Rattle.image.specs.Images.{net_in, list_in}
 use Rattle.image.specs.Listing.{Listed, listing, listed}
-use Rattle.records.proofs.Puts.{put_start}
-use Rattle.layout.proofs.Parts.{length_capacities}
-use Rattle.layout.proofs.Loads.{laid_by, net_by}
-
-module _ (img : List ℕ) (e : Trailer) (laid : LaidOut img e) where
-  -- where the records begin
-  abbrev records : ℕ
-  records = length img - 8 - e.to_records
-
-  records_at : records ≡ e.n + 3 * e.r
-  records_at = omega (arith, laid.to_records, laid.whole)
-
-  pub list_found : take records img ≡ take (e.n + 3 * e.r) img
-  list_found = ap (λ (k : ℕ). take k img) records_at
-
-module _ (img : List ℕ) (g : (load edition_1 img).verdict ≡ Granted) (all : Each IsByte img) (e : Trailer) (e_is : e ≡ trailer_of edition_1 img) where
-  laid : LaidOut img e
-  laid = laid_by img g e_is
-
-  abbrev relations_at : ℕ
-  relations_at = length img - 8 - e.to_relations
-
-  relations_start : relations_at ≡ e.n
-  relations_start = omega (arith, laid.to_relations, laid.whole)
-
-  relations_found : concat_map (relation_bytes edition_1) (read_relations edition_1 e.r (drop relations_at img)) ≡ take (3 * e.r) (drop e.n img)
-  relations_found =
-      relations_written edition_1 e.r (drop relations_at img) (omega (arith, length-drop relations_at img, relations_start, laid.whole)) (each_drop relations_at all)
-      ∙ ap (λ (k : ℕ). take (3 * e.r) (drop k img)) relations_start
-
-  -- the list is n, r and the first n + 3r bytes of the image
-  pub listing_found : e.n ∷ e.r ∷ take (e.n + 3 * e.r) img ≡ listing (load edition_1 img).net
-  unfolding listing net_of
-  listing_found =
-      sym ((λ i. length_capacities img e laid e.n refl i ∷ length_read edition_1 e.r (drop relations_at img) i ∷ (take e.n img ++ relations_found i))
-      ∙ ap (λ (l : List ℕ). e.n ∷ e.r ∷ l) (sym (take-add e.n (3 * e.r) img)))
-      ∙ ap listing (net_by img g e_is)
+use Rattle.image.specs.declared.laid.LaidImage.{LaidImage}
+use Rattle.image.proofs.Layouts.{list_is, bytes_each}
 
 module _ (img out : List ℕ) where
   abbrev list : List ℕ
   list = listing (load edition_1 img).net
 
-  -- what is listed, by the verdict of loading and by whether there is room
   abbrev listed_by : Verdict → Bool → Listed
   listed_by v room =
       record {
@@ -70,17 +27,27 @@ module _ (img out : List ℕ) where
         output = cond (is_granted v && room) (list ++ drop (length list) out) out;
       }
 
-  pub refused_listed : (k : ℕ) → (load edition_1 img).verdict ≡ Refused k → (record { verdict = Refused k; written = 0; output = out }) ≡ listed img out
+  pub refused_listed : (k : Refusal) → (load edition_1 img).verdict ≡ Refused k → listed img out ≡ record { verdict = Refused k; written = 0; output = out }
   unfolding listed
-  refused_listed k g = ap (λ (v : Verdict). listed_by v (leb (length list) (length out))) (sym g)
+  refused_listed k g = ap (λ (v : Verdict). listed_by v (leb (length list) (length out))) g
 
   module _ (g : (load edition_1 img).verdict ≡ Granted) where
-    pub short_listed : length out < length list → (record { verdict = Granted; written = 0; output = out }) ≡ listed img out
+    pub short_listed : length out < length list → listed img out ≡ record { verdict = Granted; written = 0; output = out }
     unfolding listed
-    short_listed h = ap₂ listed_by (sym g) (sym (lt-leb (length list) (length out) h))
+    short_listed h = ap₂ listed_by g (lt-leb (length list) (length out) h)
 
-    pub whole_listed : (n : ℕ) {o : List ℕ} → n ≡ length list → length list ≤ length out → o ≡ put out 0 list
-        → (record { verdict = Granted; written = n; output = o }) ≡ listed img out
+    pub whole_listed : length list ≤ length out → listed img out ≡ record { verdict = Granted; written = length list; output = list ++ drop (length list) out }
     unfolding listed
-    whole_listed n k h e =
-        (λ i. record { verdict = Granted; written = k i; output = (e ∙ put_start out list) i }) ∙ ap₂ listed_by (sym g) (sym (le-leb (length list) (length out) h))
+    whole_listed h = ap₂ listed_by g (le-leb (length list) (length out) h)
+
+-- the part of an image that is listed, and how long the list is
+pub part_found : (img : List ℕ) (laid : LaidImage) {net : Net} {part : List ℕ} → ((i : ℕ) → get_or img i 0 < 256) → laid.bytes.now ≡ img → net ≡ net_in laid → part ≡ list_in laid
+    → part ≡ net.caps ++ concat_map (relation_bytes edition_1) net.rels
+part_found img laid all bytes_are net_is part_is =
+    part_is
+    ∙ list_is laid.bytes.now (trailer_as laid.trailer) laid.laid (subst (Each IsByte) (sym bytes_are) (bytes_each img all))
+    ∙ ap (λ (n : Net). n.caps ++ concat_map (relation_bytes edition_1) n.rels) (sym net_is)
+
+pub length_listing : (net : Net) {part : List ℕ} → part ≡ net.caps ++ concat_map (relation_bytes edition_1) net.rels → length (listing net) ≡ length part + 2
+unfolding listing
+length_listing net e = let l = ap length e in omega arith

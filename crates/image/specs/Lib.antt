@@ -1,3 +1,5 @@
+pub mod Trailers
+pub mod Images
+pub mod Records
 pub mod Composing
-pub mod Loading
 pub mod Listing

@@ -11,7 +11,6 @@ use borrow.Author.Tests.{eqb-true, ltb-false, not-false}
 use lib.ListN.{length, take, drop, length-drop, take-append-drop}
 use lib.Seq.{drop-drop, take-add, take_all, length-take-le}
 use Rattle.model.specs.Sets.{Each, nil, cons, IsByte, any, concat_map, equal_lists}
-use Rattle.model.specs.Refusals
 use Rattle.model.specs.Refusals.{Check, first_refusal, is_granted}
 use Rattle.model.specs.Relations.{Net, size, relation_count, empty_net, has_zero, misfit, repeats}
 use Rattle.model.specs.Transitions.{extra_transitions, transitions_of}

@@ -14,7 +14,8 @@ use Rattle.model.specs.Sets.{Set, singleton, empty_set, bit, Each}
 use Rattle.model.specs.Relations.{Net, size, related, causes, implies, requires, suggests}
 use Rattle.model.specs.Transitions.{Transition, asks_on, asks_off, act, deac, forced, drop_of, decline_of, transitions}
 use Rattle.model.specs.Firing.{Marking, fire, step_limit}
-use Rattle.model.specs.Machine.{Request, Counts, Event, initial_marking, step_of}
+use Rattle.model.specs.Machine.{Counts, Event, initial_marking, step_of}
+use Rattle.model.specs.declared.Request.{Request}
 use Rattle.model.specs.Image.{set_bytes}
 use Rattle.model.specs.Claims.{Fits}
 use Rattle.model.proofs.Tests.{or_cases, and_left, not_true, each_map}

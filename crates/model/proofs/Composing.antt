@@ -10,7 +10,6 @@ use lib.Dec.{eqb, ltb}
 use borrow.Author.Tests.{le-ltb, ltb-false}
 use lib.ListN.{length, drop}
 use Rattle.model.specs.Sets.{Each, nil, cons, IsByte, concat_map}
-use Rattle.model.specs.Refusals
 use Rattle.model.specs.Refusals.{refuse, is_granted}
 use Rattle.model.specs.Relations.{Net, size, relation_count}
 use Rattle.model.specs.Image.{Format, Composed, relation_size, relation_bytes, image, bad_sizes, net_checks, read_relations, given_net, compose_checks, compose}
@@ -22,6 +21,7 @@ use Rattle.model.proofs.Checks.{granted_passes, passes_granted}
 use Rattle.model.proofs.Sizes.{length_relations}
 use Rattle.model.proofs.Images.{agree, relations_read, encodable}
 use Rattle.model.proofs.Accepts.{length_read}
+use Rattle.model.specs.declared.Refusal.TheVariants.{ShortOutput}
 
 -- composing, by its verdict
 abbrev composed_by : (f : Format) (net : Net) (out : List ℕ) → Verdict → Composed
@@ -74,7 +74,7 @@ module _ (f : Format) (use_of : Usable f) (net : Net) (v : Valid f net) (out : L
   passes : Each Passes (compose_checks f net.caps given (length out))
   passes =
       cons (or_none (ap (bad_sizes f (size net)) given_count ∙ v.sizes) (agree (length given % relation_size f) 0 given_whole))
-      (subst (λ (x : Net). Each Passes (net_checks x ++ (refuse Refusals.short_output (ltb (length out) (length (image f x))) ∷ []))) (sym given_is)
+      (subst (λ (x : Net). Each Passes (net_checks x ++ (refuse ShortOutput (ltb (length out) (length (image f x))) ∷ []))) (sym given_is)
       (cons v.caps (cons v.fits (cons v.once (cons (le-ltb (length out) (length (image f net)) room) nil)))))
 
   -- composing a valid list into an output with room: the image, then the bytes that were there

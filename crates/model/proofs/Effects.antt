@@ -9,27 +9,30 @@ use mathlib.Core.Option.{none-ne-some}
 use lib.Dec.{eqb, leb}
 use lib.ListN.{length}
 use borrow.Author.Tests.{leb-true, leb-false, eqb-true, eq-eqb}
-use Rattle.model.specs.Refusals.{is_granted}
+use Rattle.model.specs.Refusals.{is_granted, number_of}
 use Rattle.model.specs.Relations.{Net, size}
 use Rattle.model.specs.Transitions.{is_forced}
 use Rattle.model.specs.Firing.{Outcome, forced_count, clear, step_limit}
-use Rattle.model.specs.Machine.{Request, Counts, Effect, initial_marking, step_of, asks_nothing, gains_nothing, concluded, effect, without_firings, with_firings}
+use Rattle.model.specs.Machine.{Counts, Effect, initial_marking, step_of, asks_nothing, gains_nothing, concluded, effect, without_firings, with_firings}
+use Rattle.model.specs.declared.Request.{Request}
 use Rattle.model.specs.Claims.{Unfinished, Quiet, Completed, Off, Admitted, Unraised, Raises, Explained}
 use Rattle.model.specs.declared.Verdict.{Verdict}
 use Rattle.model.specs.declared.Verdict.TheVariants.{Granted, Refused}
 use Rattle.model.proofs.Tests.{not_true, not_both, and_left, and_right, and_both, and_false, passing_bound}
 use Rattle.model.proofs.Runs.{run_firings, quiet_run, unfinished_run}
+use Rattle.model.specs.declared.Refusal.{Refusal}
+use Rattle.model.specs.declared.Refusal.TheVariants.{NoSuchContext, StepLimitMet, TokensLeft, AlreadyOff, NotRaised}
 
 -- the six ways that a request goes
 pub data Judged (net : Net) (m : Counts) (r : Request) : Type 0 where
-  outside : size net ≤ r.context → effect net m r ≡ record { answer = without_firings (Refused 10); counts = m } → Judged net m r
-  idle : Off net m r → effect net m r ≡ record { answer = without_firings (Refused 14); counts = m } → Judged net m r
+  outside : size net ≤ r.context → effect net m r ≡ record { answer = without_firings (Refused NoSuchContext); counts = m } → Judged net m r
+  idle : Off net m r → effect net m r ≡ record { answer = without_firings (Refused AlreadyOff); counts = m } → Judged net m r
   unfinished : Admitted net m r → Unfinished net (step_of net m r)
-      → effect net m r ≡ record { answer = with_firings (step_of net m r) (Refused 11); counts = m } → Judged net m r
+      → effect net m r ≡ record { answer = with_firings (step_of net m r) (Refused StepLimitMet); counts = m } → Judged net m r
   unclear : Admitted net m r → Quiet net (step_of net m r) → clear net (step_of net m r).marking ≡ false
-      → effect net m r ≡ record { answer = with_firings (step_of net m r) (Refused 12); counts = m } → Judged net m r
+      → effect net m r ≡ record { answer = with_firings (step_of net m r) (Refused TokensLeft); counts = m } → Judged net m r
   unraised : Admitted net m r → Completed net (step_of net m r) → Unraised m r (step_of net m r).marking.count
-      → effect net m r ≡ record { answer = with_firings (step_of net m r) (Refused 15); counts = m } → Judged net m r
+      → effect net m r ≡ record { answer = with_firings (step_of net m r) (Refused NotRaised); counts = m } → Judged net m r
   completed : Admitted net m r → Completed net (step_of net m r) → Raises m r (step_of net m r).marking.count
       → effect net m r
       ≡ record { answer = with_firings (step_of net m r) Granted; counts = (step_of net m r).marking.count }
@@ -41,10 +44,10 @@ firings_in x = x.answer.firings
 abbrev forced_in : Effect → ℕ
 forced_in x = x.answer.forced
 
-other : (j k : ℕ) {v : Verdict} → v ≡ Refused j → v ≡ Refused k → (j ≡ k → ⊥) → ⊥
-other j k p q d = let e : j ≡ k = cc in d e
+other : (j k : Refusal) {v : Verdict} → v ≡ Refused j → v ≡ Refused k → (number_of j ≡ number_of k → ⊥) → ⊥
+other j k p q d = let e : j ≡ k = cc in d (ap number_of e)
 
-never : {k : ℕ} {v : Verdict} → v ≡ Granted → v ≡ Refused k → ⊥
+never : {k : Refusal} {v : Verdict} → v ≡ Granted → v ≡ Refused k → ⊥
 never p q = let z : ◌≡◌ {A = ℕ} 0 1 = cc in absurd (omega arith)
 
 module _ (net : Net) (m : Counts) (r : Request) where
@@ -54,8 +57,8 @@ module _ (net : Net) (m : Counts) (r : Request) where
   -- the effect, by the five tests
   abbrev effect_by : (beyond off quiet clear low : Bool) → Effect
   effect_by b f q k l =
-      elim (elim b as (λ _. Verdict) [ true ↦ Refused 10 | false ↦ elim f as (λ _. Verdict) [ true ↦ Refused 14 | false ↦ Granted ] ]) as (λ _. Effect) [
-        | Granted ↦ concluded m end (elim (not q) as (λ _. Verdict) [ true ↦ Refused 11 | false ↦ elim (not k) as (λ _. Verdict) [ true ↦ Refused 12 | false ↦ elim l as (λ _. Verdict) [ true ↦ Refused 15 | false ↦ Granted ] ] ])
+      elim (elim b as (λ _. Verdict) [ true ↦ Refused NoSuchContext | false ↦ elim f as (λ _. Verdict) [ true ↦ Refused AlreadyOff | false ↦ Granted ] ]) as (λ _. Effect) [
+        | Granted ↦ concluded m end (elim (not q) as (λ _. Verdict) [ true ↦ Refused StepLimitMet | false ↦ elim (not k) as (λ _. Verdict) [ true ↦ Refused TokensLeft | false ↦ elim l as (λ _. Verdict) [ true ↦ Refused NotRaised | false ↦ Granted ] ] ])
         | Refused j ↦ record { answer = without_firings (Refused j); counts = m }
       ]
 
@@ -150,10 +153,10 @@ module _ (net : Net) (m : Counts) (r : Request) where
           let v = ap (λ (x : Effect). x.answer.verdict) e in
           record {
             ten = (λ _. h, λ _. v);
-            fourteen = (λ p. absurd (other 10 14 v p (omega arith)), λ x. absurd (outside_of h x));
-            eleven = (λ p. absurd (other 10 11 v p (omega arith)), λ x. absurd (inside_of h x.0));
-            twelve = (λ p. absurd (other 10 12 v p (omega arith)), λ x. absurd (inside_of h x.0));
-            fifteen = (λ p. absurd (other 10 15 v p (omega arith)), λ x. absurd (inside_of h x.0));
+            fourteen = (λ p. absurd (other NoSuchContext AlreadyOff v p (omega arith)), λ x. absurd (outside_of h x));
+            eleven = (λ p. absurd (other NoSuchContext StepLimitMet v p (omega arith)), λ x. absurd (inside_of h x.0));
+            twelve = (λ p. absurd (other NoSuchContext TokensLeft v p (omega arith)), λ x. absurd (inside_of h x.0));
+            fifteen = (λ p. absurd (other NoSuchContext NotRaised v p (omega arith)), λ x. absurd (inside_of h x.0));
             granted = (λ p. absurd (never p v), λ x. absurd (inside_of h x.0));
             moved = λ p. absurd (never p v);
             kept = λ k p. ap (λ (x : Effect). x.counts) e;
@@ -164,11 +167,11 @@ module _ (net : Net) (m : Counts) (r : Request) where
       go (idle h e) =
           let v = ap (λ (x : Effect). x.answer.verdict) e in
           record {
-            ten = (λ p. absurd (other 14 10 v p (omega arith)), λ l. absurd (outside_of l h));
+            ten = (λ p. absurd (other AlreadyOff NoSuchContext v p (omega arith)), λ l. absurd (outside_of l h));
             fourteen = (λ _. h, λ _. v);
-            eleven = (λ p. absurd (other 14 11 v p (omega arith)), λ x. absurd (active_of h x.0));
-            twelve = (λ p. absurd (other 14 12 v p (omega arith)), λ x. absurd (active_of h x.0));
-            fifteen = (λ p. absurd (other 14 15 v p (omega arith)), λ x. absurd (active_of h x.0));
+            eleven = (λ p. absurd (other AlreadyOff StepLimitMet v p (omega arith)), λ x. absurd (active_of h x.0));
+            twelve = (λ p. absurd (other AlreadyOff TokensLeft v p (omega arith)), λ x. absurd (active_of h x.0));
+            fifteen = (λ p. absurd (other AlreadyOff NotRaised v p (omega arith)), λ x. absurd (active_of h x.0));
             granted = (λ p. absurd (never p v), λ x. absurd (active_of h x.0));
             moved = λ p. absurd (never p v);
             kept = λ k p. ap (λ (x : Effect). x.counts) e;
@@ -179,11 +182,11 @@ module _ (net : Net) (m : Counts) (r : Request) where
       go (unfinished h u e) =
           let v = ap (λ (x : Effect). x.answer.verdict) e in
           record {
-            ten = (λ p. absurd (other 11 10 v p (omega arith)), λ l. absurd (inside_of l h));
-            fourteen = (λ p. absurd (other 11 14 v p (omega arith)), λ o. absurd (active_of o h));
+            ten = (λ p. absurd (other StepLimitMet NoSuchContext v p (omega arith)), λ l. absurd (inside_of l h));
+            fourteen = (λ p. absurd (other StepLimitMet AlreadyOff v p (omega arith)), λ o. absurd (active_of o h));
             eleven = (λ _. (h, u), λ _. v);
-            twelve = (λ p. absurd (other 11 12 v p (omega arith)), λ x. absurd (clash x.1 u));
-            fifteen = (λ p. absurd (other 11 15 v p (omega arith)), λ x. absurd (clash x.1.quiet u));
+            twelve = (λ p. absurd (other StepLimitMet TokensLeft v p (omega arith)), λ x. absurd (clash x.1 u));
+            fifteen = (λ p. absurd (other StepLimitMet NotRaised v p (omega arith)), λ x. absurd (clash x.1.quiet u));
             granted = (λ p. absurd (never p v), λ x. absurd (clash x.1.quiet u));
             moved = λ p. absurd (never p v);
             kept = λ k p. ap (λ (x : Effect). x.counts) e;
@@ -194,11 +197,11 @@ module _ (net : Net) (m : Counts) (r : Request) where
       go (unclear h q k e) =
           let v = ap (λ (x : Effect). x.answer.verdict) e in
           record {
-            ten = (λ p. absurd (other 12 10 v p (omega arith)), λ l. absurd (inside_of l h));
-            fourteen = (λ p. absurd (other 12 14 v p (omega arith)), λ o. absurd (active_of o h));
-            eleven = (λ p. absurd (other 12 11 v p (omega arith)), λ x. absurd (clash q x.1));
+            ten = (λ p. absurd (other TokensLeft NoSuchContext v p (omega arith)), λ l. absurd (inside_of l h));
+            fourteen = (λ p. absurd (other TokensLeft AlreadyOff v p (omega arith)), λ o. absurd (active_of o h));
+            eleven = (λ p. absurd (other TokensLeft StepLimitMet v p (omega arith)), λ x. absurd (clash q x.1));
             twelve = (λ _. (h, q, k), λ _. v);
-            fifteen = (λ p. absurd (other 12 15 v p (omega arith)), λ x. absurd (not_both _ x.1.cleared k));
+            fifteen = (λ p. absurd (other TokensLeft NotRaised v p (omega arith)), λ x. absurd (not_both _ x.1.cleared k));
             granted = (λ p. absurd (never p v), λ x. absurd (not_both _ x.1.cleared k));
             moved = λ p. absurd (never p v);
             kept = λ k p. ap (λ (x : Effect). x.counts) e;
@@ -209,10 +212,10 @@ module _ (net : Net) (m : Counts) (r : Request) where
       go (unraised h c l e) =
           let v = ap (λ (x : Effect). x.answer.verdict) e in
           record {
-            ten = (λ p. absurd (other 15 10 v p (omega arith)), λ b. absurd (inside_of b h));
-            fourteen = (λ p. absurd (other 15 14 v p (omega arith)), λ o. absurd (active_of o h));
-            eleven = (λ p. absurd (other 15 11 v p (omega arith)), λ x. absurd (clash c.quiet x.1));
-            twelve = (λ p. absurd (other 15 12 v p (omega arith)), λ x. absurd (not_both _ c.cleared x.2));
+            ten = (λ p. absurd (other NotRaised NoSuchContext v p (omega arith)), λ b. absurd (inside_of b h));
+            fourteen = (λ p. absurd (other NotRaised AlreadyOff v p (omega arith)), λ o. absurd (active_of o h));
+            eleven = (λ p. absurd (other NotRaised StepLimitMet v p (omega arith)), λ x. absurd (clash c.quiet x.1));
+            twelve = (λ p. absurd (other NotRaised TokensLeft v p (omega arith)), λ x. absurd (not_both _ c.cleared x.2));
             fifteen = (λ _. (h, c, l), λ _. v);
             granted = (λ p. absurd (never p v), λ x. absurd (raised_of x.2 l));
             moved = λ p. absurd (never p v);

@@ -11,9 +11,9 @@ use borrow.Author.Tests.{eq-eqb, le-ltb, ltb-false}
 use lib.ListN.{length, take, drop, length-append}
 use lib.Seq.{take_at, drop_at}
 use Rattle.model.specs.Sets.{Each, nil, cons, concat_map, equal_lists}
-use Rattle.model.specs.Refusals
 use Rattle.model.specs.Refusals.{refuse, first_refusal, is_granted}
-use Rattle.model.specs.Relations.{Net, Relation, size, relation_count, empty_net, misfit}
+use Rattle.model.specs.Relations.{Net, size, relation_count, empty_net, misfit}
+use Rattle.model.specs.declared.Relation.{Relation}
 use Rattle.model.specs.Image.{Format, Trailer, read, relation_fields, relation_from, relation_size, relations_size, relation_bytes, record_size, records_size, records, trailer_fields, trailer_from, trailer_size, trailer_bytes, trailer, image, transition_count, bad_sizes, net_checks, read_relations, trailer_start, trailer_of, bad_layout, net_of, records_of, other_records, load_checks, load_checks_by, load}
 use Rattle.model.specs.Claims.{Valid, Usable, Passes}
 use Rattle.model.specs.declared.Verdict.{Verdict}
@@ -23,6 +23,7 @@ use Rattle.model.proofs.Checks.{passes_granted}
 use Rattle.model.proofs.Ready.{fitting}
 use Rattle.model.proofs.Fields.{InFields, none, field, read_write}
 use Rattle.model.proofs.Sizes.{equal_refl, length_transitions, length_relation, length_relations, length_records, length_trailer, length_image}
+use Rattle.model.specs.declared.Refusal.TheVariants.{WrongRecords}
 
 pub agree : (x y : ℕ) → x ≡ y → not (eqb x y) ≡ false
 agree x y p = ap not (eq-eqb x y p)
@@ -201,7 +202,7 @@ module _ (f : Format) (use_of : Usable f) (net : Net) (v : Valid f net) where
       (cons (agree f.edition f.edition refl)
       (cons v.sizes
       (cons layout
-      (subst (λ (x : Net). Each Passes (net_checks x ++ (refuse Refusals.wrong_records (other_records f (image f net) e) ∷ []))) (sym net_found)
+      (subst (λ (x : Net). Each Passes (net_checks x ++ (refuse WrongRecords (other_records f (image f net) e) ∷ []))) (sym net_found)
       (cons v.caps (cons v.fits (cons v.once (cons records_agree nil))))))))
 
   granted : first_refusal (load_checks f (image f net)) ≡ Granted

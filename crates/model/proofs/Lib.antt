@@ -10,14 +10,14 @@ pub mod Rules
 pub mod Bounds
 pub mod Totals
 pub mod Lists
-pub mod Demand3
+pub mod EveryList
 pub mod Fields
 pub mod Masks
 pub mod Sizes
 pub mod Images
 pub mod Accepts
 pub mod Composing
-pub mod Demand1
+pub mod Verdicts
 pub mod Editions
 pub mod Walks
 pub mod Monotone

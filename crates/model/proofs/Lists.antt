@@ -10,7 +10,8 @@ use lib.ListN.{length, length-take}
 use Rattle.model.specs.Sets.{Each, nil, cons}
 use Rattle.model.specs.Refusals.{is_granted}
 use Rattle.model.specs.Relations.{Net}
-use Rattle.model.specs.Machine.{Request, Entry, Board, call_of, without_firings, State, Event, activation, deactivation, effect, commit, make_request, undo_from, settle, reply, respond, after, event, log, requested, open_limit}
+use Rattle.model.specs.Machine.{Entry, Board, call_of, without_firings, State, Event, activation, deactivation, effect, commit, make_request, undo_from, settle, reply, respond, after, event, log, requested, open_limit}
+use Rattle.model.specs.declared.Request.{Request}
 use Rattle.model.specs.Claims.{Made, Opens, none_made, then_open, open_after, ends_open}
 use Rattle.model.specs.declared.Verdict.{Verdict}
 use Rattle.model.specs.declared.Verdict.TheVariants.{Granted, Refused}
@@ -18,6 +19,7 @@ use Rattle.model.specs.declared.Call.{Call}
 use Rattle.model.specs.declared.Call.TheVariants.{Activate, Deactivate, Undo, Settle}
 use Rattle.model.proofs.Effects.{explained, forced_bound}
 use Rattle.model.proofs.Replay.{reply_net}
+use Rattle.model.specs.declared.Refusal.TheVariants.{NothingOpen}
 
 -- a request's counts on a board are those that it comes to
 pub request_counts : (b : Board) (r : Request) → (make_request b r).board.counts ≡ (effect b.net b.counts r).counts
@@ -97,7 +99,7 @@ reply_open b Settle = refl
 undo_ends : (b : Board) (es : List Entry) → ends_open (length es) Undo (undo_from b es).answer
 unfolding undo_from
 undo_ends b [] = refl
-undo_ends b (e ∷ es) = ap (λ (x : Bool). without_firings (cond x (Refused 13) Granted)) (sym (eqb-suc-zero (length es)))
+undo_ends b (e ∷ es) = ap (λ (x : Bool). without_firings (cond x (Refused NothingOpen) Granted)) (sym (eqb-suc-zero (length es)))
 
 reply_ends : (b : Board) (c : Call) → ends_open (length b.opened) c (reply b c).answer
 unfolding reply settle

@@ -1,5 +1,5 @@
 -- In a net without suggestions an activation lowers no count, forces none and never meets 15, and its firings are at most the room that the
--- counts leave; in any net a deactivation raises no count (document 02, request g).
+-- counts leave; in any net a deactivation raises no count.
 -- Assumes nothing.
 use Prim.Native.Nat.{ℕ, zero, suc, ◌+◌, ◌-◌, ◌<◌, ◌≤◌}
 use native.Mathlib.Nat.{le_of_suc-le-suc, eq-or-lt_of_le, zero-add}
@@ -12,7 +12,8 @@ use lib.Dec.{eqb}
 use lib.ListN.{length}
 use borrow.Author.Tests.{eqb-true, eq-eqb, ne_eqb}
 use Rattle.model.specs.Sets.{singleton, empty_set, bit}
-use Rattle.model.specs.Relations.{Net, Relation, size, capacity, matches, related, causes, implies, requires, suggests}
+use Rattle.model.specs.Relations.{Net, size, capacity, matches, related, causes, implies, requires, suggests}
+use Rattle.model.specs.declared.Relation.{Relation}
 use Rattle.model.specs.Transitions.{Transition, is_forced, asks_on, act, deac, forced, drop_of, decline_of}
 use Rattle.model.specs.Firing.{Marking, Outcome, is_empty, ready_of, next_of, fire, step_limit, clear}
 use Rattle.model.specs.Machine.{Counts, activation, deactivation, initial_marking, step_of, effect}
@@ -24,6 +25,7 @@ use Rattle.model.proofs.Runs.{run_keeps, run_each}
 use Rattle.model.proofs.Effects.{granted_step, effect_firings, explained}
 use Rattle.model.proofs.Replay.{Grants}
 use Rattle.model.proofs.Shapes.{Shape, is_act, is_deac, is_drop, is_implied, is_required, is_decline}
+use Rattle.model.specs.declared.Refusal.TheVariants.{StepLimitMet, NotRaised}
 
 -- what holds, in a net without suggestions, of every marking of an activation's step that begins at the counts m₀
 record Up (net : Net) (m₀ : Counts) (m : Marking) : Type 0 where
@@ -279,7 +281,7 @@ module _ (net : Net) (fits : Fits net) (none : SuggestsNone net) (m : Counts) (r
       (initial_marking m (activation c)) begins))
 
   -- and where that room is no more than a step may fire, it never meets 11
-  pub activation_ends : left_over net m ≤ step_limit → (effect net m (activation c)).answer.verdict ≢ Refused 11
+  pub activation_ends : left_over net m ≤ step_limit → (effect net m (activation c)).answer.verdict ≢ Refused StepLimitMet
   activation_ends l e =
       let u = ((explained net m (activation c)).eleven.0 e).1 in
       let s = rises.spent in
@@ -288,7 +290,7 @@ module _ (net : Net) (fits : Fits net) (none : SuggestsNone net) (m : Counts) (r
       absurd (omega arith)
 
   -- nor 15: where no temporary place is marked, what was asked on has come
-  pub activation_raises : (effect net m (activation c)).answer.verdict ≢ Refused 15
+  pub activation_raises : (effect net m (activation c)).answer.verdict ≢ Refused NotRaised
   unfolding clear
   activation_raises e =
       let x = (explained net m (activation c)).fifteen.0 e in

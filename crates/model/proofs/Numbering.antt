@@ -9,7 +9,8 @@ use mathlib.Core.List.{List, ◌++◌}
 use lib.ListN.{drop, get_elem?}
 use lib.Seq.{drop_at}
 use Rattle.model.specs.Sets.{concat_map, range}
-use Rattle.model.specs.Relations.{Net, Relation, size}
+use Rattle.model.specs.Relations.{Net, size}
+use Rattle.model.specs.declared.Relation.{Relation}
 use Rattle.model.specs.Transitions.{Transition, act, deac, context_transitions, extra_transitions, transitions_of, transitions}
 use Rattle.model.proofs.Sizes.{length_concat_map, length_range}
 

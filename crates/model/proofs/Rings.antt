@@ -14,6 +14,7 @@ use Rattle.model.specs.Claims.{Fits, SuggestsNone}
 use Rattle.model.specs.declared.Verdict.TheVariants.{Refused}
 use Rattle.model.proofs.Rules.{zeros_rules}
 use Rattle.model.proofs.Monotone.{left_over, activation_firings, activation_ends}
+use Rattle.model.specs.declared.Refusal.TheVariants.{StepLimitMet}
 
 -- k contexts in a ring
 abbrev pub ring_of : ℕ → Net
@@ -36,5 +37,5 @@ ring_firings c =
     let q = ring_room in
     omega arith
 
-pub ring_ends : (c : ℕ) → (effect (ring_of 16) zeros (activation c)).answer.verdict ≢ Refused 11
+pub ring_ends : (c : ℕ) → (effect (ring_of 16) zeros (activation c)).answer.verdict ≢ Refused StepLimitMet
 ring_ends c = activation_ends (ring_of 16) ring_fits ring_suggests_none zeros (zeros_rules (ring_of 16)) c (let q = ring_room in omega arith)

@@ -10,10 +10,12 @@ use mathlib.Core.Option.{none, some}
 use mathlib.Core.List.{List, [], ◌∷◌}
 use borrow.Author.Tests.{eqb-true, eq-eqb, lt-ltb}
 use Rattle.model.specs.Sets.{Set, singleton, empty_set, bit, any, concat_map, range, Each, nil, cons, IsByte}
-use Rattle.model.specs.Relations.{Net, Relation, size, capacity, matches, related, excluded, excludes, implies, requires}
+use Rattle.model.specs.Relations.{Net, size, capacity, matches, related, excluded, excludes, implies, requires}
+use Rattle.model.specs.declared.Relation.{Relation}
 use Rattle.model.specs.Transitions.{Transition, forced, extra, context_transitions, extra_transitions, transitions_of}
 use Rattle.model.specs.Firing.{Marking, below_capacity, ready_at, ready, ready_of, enabled, enabled_of, next, next_of, fire, clear, is_empty, step_limit}
-use Rattle.model.specs.Machine.{Request, Counts, Event, zeros, initial_marking, step_of, effect}
+use Rattle.model.specs.Machine.{Counts, Event, zeros, initial_marking, step_of, effect}
+use Rattle.model.specs.declared.Request.{Request}
 use Rattle.model.specs.Image.{Format}
 use Rattle.model.specs.Claims.{Fits, Valid, Rules, Active}
 use Rattle.model.proofs.Tests.{and_left, or_cases, or_left, or_right, imp_make, six_make, zero_or_pos, not_both, below_at, below_make, each_left, each_right, each_get_or, first_each}

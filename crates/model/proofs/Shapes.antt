@@ -8,7 +8,8 @@ use mathlib.Core.List.{List, [], ◌∷◌}
 use lib.Dec.{eqb}
 use borrow.Author.Tests.{eqb-true, eq-eqb}
 use Rattle.model.specs.Sets.{any, singleton, empty_set, Each, nil, cons}
-use Rattle.model.specs.Relations.{Net, Relation, size, matches, related, causes, implies, requires, suggests}
+use Rattle.model.specs.Relations.{Net, size, matches, related, causes, implies, requires, suggests}
+use Rattle.model.specs.declared.Relation.{Relation}
 use Rattle.model.specs.Transitions.{Transition, act, deac, forced, drop_of, decline_of, extra, context_transitions, extra_transitions, transitions_of, transitions}
 use Rattle.model.proofs.Tests.{and_both, or_left, or_right, each_append, each_map, each_concat_map, range_below}
 

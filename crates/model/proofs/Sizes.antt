@@ -12,7 +12,8 @@ use borrow.Author.Tests.{eqb-true, eq-eqb}
 use lib.ListN.{length, take, drop, get_elem?, length-append, length-map}
 use lib.Seq.{take_at, drop-append-add}
 use Rattle.model.specs.Sets.{Set, from, number, singleton, empty_set, equal_lists, concat_map, range, Each, nil, cons, IsByte}
-use Rattle.model.specs.Relations.{Net, Relation, size, relation_count, misfit, causes, implies, requires, suggests}
+use Rattle.model.specs.Relations.{Net, size, relation_count, misfit, causes, implies, requires, suggests}
+use Rattle.model.specs.declared.Relation.{Relation}
 use Rattle.model.specs.Transitions.{Transition, drop_of, decline_of, forced, context_transitions, extra, extra_transitions, transitions_of, transitions}
 use Rattle.model.specs.Image.{Format, Trailer, set_bytes, record_bytes, relation_fields, relation_bytes, trailer_fields, trailer_bytes, trailer_size, relation_size, relations_size, record_size, records_size, records, image, transition_count}
 use Rattle.model.specs.Claims.{Valid}
@@ -33,7 +34,7 @@ equal_true (x ∷ xs) (y ∷ ys) e =
     ap₂ (λ (a : ℕ) (l : List ℕ). a ∷ l) (eqb-true x y (and_left (eqb x y) (equal_lists xs ys) e)) (equal_true xs ys (and_right (eqb x y) (equal_lists xs ys) e))
 
 -- lists of one length each, one behind the other
-pub length_concat_map {ℓ κ} : {A : Type ℓ} {B : Type κ} (f : A → List B) (k : ℕ) → ((x : A) → length (f x) ≡ k) → (xs : List A) → length (concat_map f xs) ≡ k * length xs
+pub length_concat_map : {A B : Type 0} (f : A → List B) (k : ℕ) → ((x : A) → length (f x) ≡ k) → (xs : List A) → length (concat_map f xs) ≡ k * length xs
 length_concat_map f k h [] = sym (mul-zero k)
 length_concat_map f k h (x ∷ xs) =
     let p = h x in
@@ -42,7 +43,7 @@ length_concat_map f k h (x ∷ xs) =
     length-append (f x) (concat_map f xs) ∙ omega arith
 
 -- and the i-th of them
-pub concat_map_at {ℓ κ} : {A : Type ℓ} {B : Type κ} (f : A → List B) (k : ℕ) → ((x : A) → length (f x) ≡ k) → (xs : List A) (i : ℕ) (x : A)
+pub concat_map_at : {A B : Type 0} (f : A → List B) (k : ℕ) → ((x : A) → length (f x) ≡ k) → (xs : List A) (i : ℕ) (x : A)
     → get_elem? xs i ≡ some x → take k (drop (k * i) (concat_map f xs)) ≡ f x
 concat_map_at f k h [] i x e = absurd (none-ne-some x e)
 concat_map_at f k h (y ∷ ys) zero x e =

@@ -135,11 +135,6 @@ module _ {ℓ κ} {A : Type ℓ} where
     each_get_or (cons p ps) zero d h = p
     each_get_or (cons p ps) (suc i) d h = each_get_or ps i d (le_of_suc-le-suc h)
 
-    -- where some element passes a test, one that passes it has the property
-    pub any_each : (f : A → Bool) {xs : List A} → Each P xs → any f xs ≡ true → (x : A) × (f x ≡ true) × P x
-    any_each f nil e = absurd (false≢true e)
-    any_each f (cons {x = x} {xs = xs} p ps) e = ⊎_elim (λ h. (x, h, p)) (λ h. any_each f ps h) (or_cases (f x) (any f xs) e)
-
     -- the first that passes a test passes it and has the property
     pub first_each : (f : A → Bool) {xs : List A} → Each P xs → (y : A) → first f xs ≡ some y → (f y ≡ true) × P y
     first_each f nil y e = absurd (none-ne-some y e)
@@ -150,8 +145,13 @@ module _ {ℓ κ} {A : Type ℓ} where
         go true q e k = subst (λ (z : A). (f z ≡ true) × P z) (some-injective x y e) (q, p)
         go false q e k = k e
 
+-- where some element passes a test, one that passes it has the property
+pub any_each {κ} : {A : Type 0} {P : A → Type κ} (f : A → Bool) {xs : List A} → Each P xs → any f xs ≡ true → (x : A) × (f x ≡ true) × P x
+any_each f nil e = absurd (false≢true e)
+any_each f (cons {x = x} {xs = xs} p ps) e = ⊎_elim (λ h. (x, h, p)) (λ h. any_each f ps h) (or_cases (f x) (any f xs) e)
+
 -- the same from the test itself
-pub any_false {ℓ} : {A : Type ℓ} (f : A → Bool) (xs : List A) → any f xs ≡ false → Each (λ (x : A). f x ≡ false) xs
+pub any_false : {A : Type 0} (f : A → Bool) (xs : List A) → any f xs ≡ false → Each (λ (x : A). f x ≡ false) xs
 any_false f [] e = nil
 any_false f (x ∷ xs) e = cons (or_false_left (f x) (any f xs) e) (any_false f xs (or_false_right (f x) (any f xs) e))
 
@@ -163,12 +163,12 @@ pub each_map {ℓ κ μ} : {A : Type ℓ} {P : A → Type κ} {Q : A → Type μ
 each_map k nil = nil
 each_map k (cons {x = x} p ps) = cons (k x p) (each_map k ps)
 
-pub any_more {ℓ} : {A : Type ℓ} (f g : A → Bool) (xs : List A) → ((x : A) → f x ≡ true → g x ≡ true) → any f xs ≡ true → any g xs ≡ true
+pub any_more : {A : Type 0} (f g : A → Bool) (xs : List A) → ((x : A) → f x ≡ true → g x ≡ true) → any f xs ≡ true → any g xs ≡ true
 any_more f g [] k e = e
 any_more f g (x ∷ xs) k e =
     ⊎_elim (λ h. or_left (any g xs) (k x h)) (λ h. or_right (g x) (any_more f g xs k h)) (or_cases (f x) (any f xs) e)
 
-pub none_any {ℓ} : {A : Type ℓ} (f : A → Bool) {xs : List A} → Each (λ (x : A). f x ≡ false) xs → any f xs ≡ false
+pub none_any : {A : Type 0} (f : A → Bool) {xs : List A} → Each (λ (x : A). f x ≡ false) xs → any f xs ≡ false
 none_any f nil = refl
 none_any f (cons p ps) = or_none p (none_any f ps)
 
@@ -190,7 +190,7 @@ pub first_same {ℓ} : {A : Type ℓ} (f g : A → Bool) {xs : List A} → Each 
 first_same f g nil = refl
 first_same {A = A} f g (cons {x = x} p ps) = ap₂ (λ (b : Bool) (o : Option A). elim b as (λ _. Option A) [ true ↦ some x | false ↦ o ]) p (first_same f g ps)
 
-pub first_any {ℓ} : {A : Type ℓ} (f : A → Bool) (xs : List A) (y : A) → first f xs ≡ some y → any f xs ≡ true
+pub first_any : {A : Type 0} (f : A → Bool) (xs : List A) (y : A) → first f xs ≡ some y → any f xs ≡ true
 first_any f [] y e = absurd (none-ne-some y e)
 first_any {A = A} f (x ∷ xs) y e = go (f x) e (first_any f xs y)
   where
@@ -208,7 +208,7 @@ none_each {A = A} f (x ∷ xs) e = go (f x) refl e (none_each f xs)
     go true q e k = absurd (none-ne-some x (sym e))
     go false q e k = cons q (k e)
 
-pub each_concat_map {ℓ κ μ ν} : {A : Type ℓ} {B : Type κ} {Q : A → Type μ} {P : B → Type ν} (f : A → List B) {xs : List A} → Each Q xs → ((x : A) → Q x → Each P (f x)) → Each P (concat_map f xs)
+pub each_concat_map {μ ν} : {A B : Type 0} {Q : A → Type μ} {P : B → Type ν} (f : A → List B) {xs : List A} → Each Q xs → ((x : A) → Q x → Each P (f x)) → Each P (concat_map f xs)
 each_concat_map f nil k = nil
 each_concat_map f (cons {x = x} q qs) k = each_append (k x q) (each_concat_map f qs k)
 

@@ -1,22 +1,27 @@
--- What the theorems say: refusals and their order, each request, demand 3 over a list of calls, and the image. docs/CLAIMS.md has each
+-- What the theorems say: refusals and their order, each request, every list of calls, and the image. docs/CLAIMS.md has each
 -- theorem in a sentence. Limits, and refusals in the claims about requests, are written as numbers once more: a definition that changed one
--- no longer meets its claim. Demand 2 is the contracts of the code, which give these definitions' values; what is claimed of them is here.
+-- no longer meets its claim. That the code gives these definitions' values is said by its contracts; what is claimed of the values is here.
 -- Assumes nothing.
 use Rattle.std.specs.Prelude.{ℕ, ◌+◌, ◌-◌, ◌*◌, ◌^◌, ◌<◌, ◌≤◌, min, ◌≡◌, ◌⊎◌, ◌↔◌, Bool, true, false, cond, eqb, length, drop, get_or}
 use Rattle.std.proofs.Math.Option.{none, some}
 use mathlib.Core.List.{List, [], ◌∷◌, ◌++◌, Memᴰ, reverse, map}
 use Rattle.model.specs.Sets.{Each, IsByte, any, count_passing}
-use Rattle.model.specs.Refusals.{Check, refuse, first_refusal, is_granted}
-use Rattle.model.specs.Relations.{Net, Relation, size, relation_count, capacity, empty_net, related, has_zero, misfit, repeats, excludes, implies, requires, suggests}
+use Rattle.model.specs.Refusals.{Check, refuse, first_refusal, is_granted, number_of}
+use Rattle.model.specs.Relations.{Net, size, relation_count, capacity, empty_net, related, has_zero, misfit, repeats, excludes, implies, requires, suggests}
+use Rattle.model.specs.declared.Relation.{Relation}
 use Rattle.model.specs.Transitions.{Transition, is_forced}
 use Rattle.model.specs.Firing.{Marking, Outcome, next_of, clear}
-use Rattle.model.specs.Machine.{Request, Counts, Event, State, Tally, zeros, step_of, effect, without_firings, read_count, begin, after, log, standing, requested, history, replayed_calls, requests, adds_granted, adds_refused, adds_undone}
+use Rattle.model.specs.Machine.{Counts, Event, State, zeros, step_of, effect, without_firings, read_count, begin, after, log, standing, requested, history, replayed_calls, requests, adds_granted, adds_refused, adds_undone}
+use Rattle.model.specs.declared.Request.{Request}
+use Rattle.model.specs.declared.Tally.{Tally}
 use Rattle.model.specs.Image.{Format, Loaded, Composed, image, bad_sizes, relations_size, records_size}
 use Rattle.model.specs.declared.Call.{Call}
 use Rattle.model.specs.declared.Call.TheVariants.{Activate, Deactivate, Undo, Settle}
 use Rattle.model.specs.declared.Answer.{Answer}
 use Rattle.model.specs.declared.Verdict.{Verdict}
 use Rattle.model.specs.declared.Verdict.TheVariants.{Granted, Refused}
+use Rattle.model.specs.declared.Refusal.TheVariants.{ShortImage, NoSuchContext, StepLimitMet, TokensLeft, NothingOpen, AlreadyOff, NotRaised}
+use Rattle.model.specs.declared.Refusal.{Refusal}
 
 -- ---- nets and formats
 
@@ -24,7 +29,7 @@ use Rattle.model.specs.declared.Verdict.TheVariants.{Granted, Refused}
 abbrev pub Fits : Net → Type 0
 Fits net = any (misfit (size net)) net.rels ≡ false
 
--- no relation of the net is a suggestion, as in every net of document 01
+-- no relation of the net is a suggestion
 abbrev pub SuggestsNone : Net → Type 0
 SuggestsNone net = any (λ (r : Relation). eqb r.kind suggests) net.rels ≡ false
 
@@ -44,7 +49,7 @@ pub record Usable (f : Format) : Type 0 where
   pub sets_fit : f.max_contexts ≤ 8 * f.set_width
   pub edition_fits : f.edition < 256
 
--- ---- demand 1: refusals and their order
+-- ---- answers and their order
 
 -- a check whose rule is kept
 abbrev pub Passes : Check → Type 0
@@ -52,27 +57,31 @@ Passes c = c.broken ≡ false
 
 -- the numbers that checks refuse with, in order
 abbrev pub numbers : List Check → List ℕ
-numbers = map (λ (c : Check). c.number)
+numbers = map (λ (c : Check). number_of c.refusal)
 
 -- a verdict that is granted, or a refusal with one of these numbers
 abbrev pub OneOf : List ℕ → Verdict → Type 0
-OneOf ks v = (v ≡ Granted) ⊎ ((k : ℕ) × Memᴰ k ks × (v ≡ Refused k))
+OneOf ks v = (v ≡ Granted) ⊎ ((r : Refusal) × Memᴰ (number_of r) ks × (v ≡ Refused r))
 
 -- a refusal's reason: a check of this number that is broken, and every check before it passes
-pub record FirstBroken (cs : List Check) (k : ℕ) : Type 0 where
+pub record FirstBroken (cs : List Check) (r : Refusal) : Type 0 where
   pub before : List Check
   pub found : Check
   pub behind : List Check
   pub split : cs ≡ before ++ (found ∷ behind)
   pub passed : Each Passes before
   pub broken : found.broken ≡ true
-  pub number : found.number ≡ k
+  pub refusal : found.refusal ≡ r
+
+-- what stands behind the end of a list of checks
+abbrev pub no_check : Check
+no_check = refuse ShortImage false
 
 -- Of any two checks of a list the earlier goes first: where it is broken, the later one's number is never the answer.
 abbrev pub InOrder : List Check → Type 0
 InOrder cs =
-    (i j : ℕ) → i < j → j < length cs → (get_or cs i (refuse 0 false)).broken ≡ true
-    → first_refusal cs ≡ Refused (get_or cs j (refuse 0 false)).number → ⊥
+    (i j : ℕ) → i < j → j < length cs → (get_or cs i no_check).broken ≡ true
+    → first_refusal cs ≡ Refused (get_or cs j no_check).refusal → ⊥
 
 -- which refusals a call can meet
 abbrev pub call_refusals : Call → List ℕ
@@ -118,27 +127,27 @@ Raises before r after = r.on ≡ true → before r.context < after r.context
 
 -- exactly when a request gets which verdict
 pub record Explained (net : Net) (m : Counts) (r : Request) : Type 0 where
-  pub ten : ((effect net m r).answer.verdict ≡ Refused 10) ↔ (size net ≤ r.context)
-  pub fourteen : ((effect net m r).answer.verdict ≡ Refused 14) ↔ Off net m r
-  pub eleven : ((effect net m r).answer.verdict ≡ Refused 11) ↔ (Admitted net m r × Unfinished net (step_of net m r))
+  pub ten : ((effect net m r).answer.verdict ≡ Refused NoSuchContext) ↔ (size net ≤ r.context)
+  pub fourteen : ((effect net m r).answer.verdict ≡ Refused AlreadyOff) ↔ Off net m r
+  pub eleven : ((effect net m r).answer.verdict ≡ Refused StepLimitMet) ↔ (Admitted net m r × Unfinished net (step_of net m r))
   pub twelve :
-      ((effect net m r).answer.verdict ≡ Refused 12)
+      ((effect net m r).answer.verdict ≡ Refused TokensLeft)
       ↔ (Admitted net m r × Quiet net (step_of net m r) × (clear net (step_of net m r).marking ≡ false))
   pub fifteen :
-      ((effect net m r).answer.verdict ≡ Refused 15)
+      ((effect net m r).answer.verdict ≡ Refused NotRaised)
       ↔ (Admitted net m r × Completed net (step_of net m r) × Unraised m r (step_of net m r).marking.count)
   pub granted :
       ((effect net m r).answer.verdict ≡ Granted)
       ↔ (Admitted net m r × Completed net (step_of net m r) × Raises m r (step_of net m r).marking.count)
   -- a granted request leaves the counts of its step's end, a refused one those before it
   pub moved : (effect net m r).answer.verdict ≡ Granted → (effect net m r).counts ≡ (step_of net m r).marking.count
-  pub kept : (k : ℕ) → (effect net m r).answer.verdict ≡ Refused k → (effect net m r).counts ≡ m
+  pub kept : (k : Refusal) → (effect net m r).answer.verdict ≡ Refused k → (effect net m r).counts ≡ m
   -- the firings reported are those made, and the forced ones are those among them
   pub fired : Admitted net m r → (effect net m r).answer.firings ≡ length (step_of net m r).fired
   pub forced : Admitted net m r → (effect net m r).answer.forced ≡ count_passing is_forced (step_of net m r).fired
   pub unfired : (Admitted net m r → ⊥) → ((effect net m r).answer.firings ≡ 0) × ((effect net m r).answer.forced ≡ 0)
 
--- ---- demand 3: what holds after every list of calls
+-- ---- every list of calls: what holds after it
 
 -- a context that is active
 abbrev pub Active : Counts → ℕ → Type 0
@@ -156,7 +165,7 @@ pub record Rules (net : Net) (m : Counts) : Type 0 where
 abbrev pub at_rest : Counts → Marking
 at_rest m = record { count = m; pr = zeros; pr_not = zeros }
 
--- resting, as document 02 has it in request j
+-- resting: nothing can fire, and no rule of a place is broken
 pub record Resting (net : Net) (m : Counts) : Type 0 where
   pub within : (c : ℕ) → c < size net → m c ≤ capacity net c
   pub still : next_of net (at_rest m) ≡ none
@@ -190,7 +199,7 @@ open_after k Settle true = 0
 abbrev pub ends_open : ℕ → Call → Answer → Type 0
 ends_open k (Activate c) a = Unit {0}
 ends_open k (Deactivate c) a = Unit {0}
-ends_open k Undo a = a ≡ without_firings (cond (eqb k 0) (Refused 13) Granted)
+ends_open k Undo a = a ≡ without_firings (cond (eqb k 0) (Refused NothingOpen) Granted)
 ends_open k Settle a = a ≡ without_firings Granted
 
 -- the events of a list with k open before it, which leaves l open
@@ -216,10 +225,10 @@ ending net m₀ cs = after (begin net m₀) cs
 abbrev pub events : Net → Counts → List Call → List Event
 events net m₀ cs = log (begin net m₀) cs
 
--- Demand 3, for the calls of a list taken together. A freshly loaded net starts at zeros (theorem demand3_loaded); the theorem demand3 has
--- it from any start that keeps the rules. Besides what the papers ask, `listed` and `beyond` say where the history and the other numbers
+-- What holds of the calls of a list taken together. A freshly loaded net starts at zeros (theorem every_list_loaded); the theorem every_list has
+-- it from any start that keeps the rules. Besides replay and rules, `listed` and `beyond` say where the history and the other numbers
 -- stand, and `forced_bound` what bounds the forced ones.
-pub record Demand3 (net : Net) (m₀ : Counts) (cs : List Call) : Type 0 where
+pub record ListHolds (net : Net) (m₀ : Counts) (cs : List Call) : Type 0 where
   pub net_kept : (ending net m₀ cs).board.net ≡ net
   -- replaying the history gives these very counts
   pub replayed : (ending net m₀ (replayed_calls (events net m₀ cs))).board.counts ≡ (ending net m₀ cs).board.counts
@@ -263,7 +272,7 @@ pub record ComposeRefused (out : List ℕ) (c : Composed) : Type 0 where
 -- what is known of reading context c's count on the machine
 pub record Reads (s : State) (c : ℕ) : Type 0 where
   pub inside : c < size s.board.net → read_count s c ≡ record { verdict = Granted; value = s.board.counts c }
-  pub outside : size s.board.net ≤ c → read_count s c ≡ record { verdict = Refused 10; value = 0 }
+  pub outside : size s.board.net ≤ c → read_count s c ≡ record { verdict = Refused NoSuchContext; value = 0 }
 
 -- what is known of granted composing of a net into an output with these bytes
 pub record Composes (f : Format) (net : Net) (out : List ℕ) (c : Composed) : Type 0 where

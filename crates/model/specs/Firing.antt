@@ -1,4 +1,4 @@
--- Document 01, the end of "Transitions" and the step of "The machine": when a transition may fire, which one does, and what follows.
+-- docs/MACHINE.md, "Firing": when a transition may fire, which one does, and what follows.
 -- Ready is what a net without priorities calls enabled; enabled here also says that no transition of a higher priority is ready.
 -- Assumes nothing.
 use Rattle.std.specs.Prelude.{ℕ, zero, suc, ◌+◌, ◌-◌, Bool, true, false, ◌&&◌, not, List, [], ◌∷◌, eqb, ltb}
@@ -83,7 +83,7 @@ pub record Outcome : Type 0 where
   pub fired : List Transition
   pub marking : Marking
 
--- how many of these firings are of forced transitions: what document 02's request b wants to know of a step
+-- how many of these firings are of forced transitions
 abbrev pub forced_count : List Transition → ℕ
 forced_count = count_passing is_forced
 

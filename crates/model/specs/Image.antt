@@ -1,13 +1,14 @@
--- Document 01, "The image", with refusals 1 to 9: the bytes of a net, composing and loading. Everything is stated for a format, so that a
+-- docs/MACHINE.md, "The image", with refusals 1 to 9: the bytes of a net, composing and loading. Everything is stated for a format, so that a
 -- wider edition is another value of it.
 -- Assumes nothing.
 use Rattle.std.specs.Prelude.{ℕ, zero, suc, ◌+◌, ◌*◌, ◌-◌, ◌/◌, ◌%◌, Bool, ◌||◌, not, cond, List, [], ◌∷◌, ◌++◌, map, eqb, ltb, length, get_or, take, drop}
 use Rattle.model.specs.Sets.{Set, from, number, any, concat_map, range, sum, equal_lists}
-use Rattle.model.specs.Refusals
 use Rattle.model.specs.Refusals.{Check, refuse, first_refusal, is_granted}
-use Rattle.model.specs.Relations.{Net, Relation, size, relation_count, empty_net, has_zero, misfit, repeats}
+use Rattle.model.specs.Relations.{Net, size, relation_count, empty_net, has_zero, misfit, repeats}
+use Rattle.model.specs.declared.Relation.{Relation}
 use Rattle.model.specs.Transitions.{Transition, transitions}
 use Rattle.model.specs.declared.Verdict.{Verdict}
+use Rattle.model.specs.declared.Refusal.TheVariants.{ShortImage, OtherEdition, WrongSizes, WrongLayout, ZeroCapacity, WrongRelation, RepeatedRelation, ShortOutput, WrongRecords}
 
 -- What an edition fixes: its number; the limits of n and r; and, in bytes, the width of a relation's end, of a set, of a distance, of each
 -- of n, r and t, and of the zero that may stand before the edition.
@@ -21,7 +22,7 @@ pub record Format : Type 0 where
   pub count_bytes : ℕ
   pub zero_bytes : ℕ
 
--- the format of document 01
+-- the format of edition 1
 abbrev pub edition_1 : Format
 edition_1 =
     record {
@@ -35,7 +36,7 @@ edition_1 =
       zero_bytes = 0;
     }
 
--- The format of document 02, request l. No code uses it yet: it is here so that the theorems about images are held to two formats.
+-- The format of a wider edition. No code uses it: it is here so that the theorems about images are held to two formats.
 abbrev pub edition_2 : Format
 edition_2 =
     record {
@@ -190,9 +191,9 @@ bad_sizes f n r = eqb n 0 || ltb f.max_contexts n || ltb f.max_relations r
 -- the checks that composing and loading share: 5, 6 and 7, each over the whole list before the next
 abbrev pub net_checks : Net → List Check
 net_checks net =
-    refuse Refusals.zero_capacity (has_zero net.caps)
-    ∷ refuse Refusals.wrong_relation (any (misfit (size net)) net.rels)
-    ∷ refuse Refusals.repeated_relation (repeats net.rels)
+    refuse ZeroCapacity (has_zero net.caps)
+    ∷ refuse WrongRelation (any (misfit (size net)) net.rels)
+    ∷ refuse RepeatedRelation (repeats net.rels)
     ∷ []
 
 -- the first r relations that the bytes hold
@@ -207,9 +208,9 @@ given_net f caps bs = record { caps = caps; rels = read_relations f (length bs /
 -- the checks of composing into an output of this length: 3, 5, 6, 7, 8
 abbrev pub compose_checks : Format → List ℕ → List ℕ → ℕ → List Check
 compose_checks f caps bs room =
-    refuse Refusals.wrong_sizes (bad_sizes f (length caps) (length bs / relation_size f) || not (eqb (length bs % relation_size f) 0))
+    refuse WrongSizes (bad_sizes f (length caps) (length bs / relation_size f) || not (eqb (length bs % relation_size f) 0))
     ∷ net_checks (given_net f caps bs)
-    ++ (refuse Refusals.short_output (ltb room (length (image f (given_net f caps bs)))) ∷ [])
+    ++ (refuse ShortOutput (ltb room (length (image f (given_net f caps bs)))) ∷ [])
 
 -- What composing gives: a verdict, the number of bytes written (0 where it is refused), and what the output then holds.
 pub record Composed : Type 0 where
@@ -264,12 +265,12 @@ other_records f img e =
 -- the checks of loading an image with this trailer: 1 to 7, then 9
 abbrev pub load_checks_by : Format → List ℕ → Trailer → List Check
 load_checks_by f img e =
-    refuse Refusals.short_image (ltb (length img) (trailer_size f))
-    ∷ refuse Refusals.other_edition (not (eqb e.edition f.edition))
-    ∷ refuse Refusals.wrong_sizes (bad_sizes f e.n e.r)
-    ∷ refuse Refusals.wrong_layout (bad_layout f img e)
+    refuse ShortImage (ltb (length img) (trailer_size f))
+    ∷ refuse OtherEdition (not (eqb e.edition f.edition))
+    ∷ refuse WrongSizes (bad_sizes f e.n e.r)
+    ∷ refuse WrongLayout (bad_layout f img e)
     ∷ net_checks (net_of f img e)
-    ++ (refuse Refusals.wrong_records (other_records f img e) ∷ [])
+    ++ (refuse WrongRecords (other_records f img e) ∷ [])
 
 -- with its own trailer
 abbrev pub load_checks : Format → List ℕ → List Check

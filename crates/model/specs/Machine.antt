@@ -1,9 +1,9 @@
--- Document 01, "The machine", with refusals 10 to 13 and document 02's 14 and 15: requests, undo, settling, totals and readings; then lists of
--- calls, the history of a list and its replay.
+-- docs/MACHINE.md, "The machine" and "Lists of calls": requests, undo, settling, totals and readings; then lists of calls, the history of a
+-- list and its replay.
 -- Assumes nothing.
 use Rattle.std.specs.Prelude.{ℕ, min, ◌+◌, Bool, true, false, ◌&&◌, not, cond, List, [], ◌∷◌, ◌++◌, map, eqb, leb, length, take, drop}
 use Rattle.model.specs.Sets.{singleton, bit, concat_map, drop_last}
-use Rattle.model.specs.Refusals.{Check, refuse, first_refusal, is_granted, no_such_context, step_limit_met, tokens_left, nothing_open, already_off, not_raised}
+use Rattle.model.specs.Refusals.{Check, refuse, first_refusal, is_granted}
 use Rattle.model.specs.Relations.{Net, size}
 use Rattle.model.specs.Firing.{Marking, Outcome, forced_count, fire_until_quiet, step_limit, clear}
 use Rattle.model.specs.declared.Call.{Call}
@@ -11,11 +11,9 @@ use Rattle.model.specs.declared.Call.TheVariants.{Activate, Deactivate, Undo, Se
 use Rattle.model.specs.declared.Verdict.{Verdict}
 use Rattle.model.specs.declared.Verdict.TheVariants.{Granted, Refused}
 use Rattle.model.specs.declared.Answer.{Answer}
-
--- a request: an activation (on) or a deactivation of a context
-pub record Request : Type 0 where
-  pub on : Bool
-  pub context : ℕ
+use Rattle.model.specs.declared.Request.{Request}
+use Rattle.model.specs.declared.Tally.{Tally}
+use Rattle.model.specs.declared.Refusal.TheVariants.{NoSuchContext, StepLimitMet, TokensLeft, NothingOpen, AlreadyOff, NotRaised}
 
 -- the activation and the deactivation of c
 abbrev pub activation : ℕ → Request
@@ -53,22 +51,22 @@ step_of net m r = fire_until_quiet net step_limit (initial_marking m r)
 abbrev pub asks_nothing : Counts → Request → Bool
 asks_nothing m r = not r.on && eqb (m r.context) 0
 
--- The checks of a request before anything fires. The second is document 02's request a: what is off is not switched off once more. It is
+-- The checks of a request before anything fires. The second: what is off is not switched off once more. It is
 -- about the named context alone; what a step asks off goes to deac and drops as before.
 abbrev pub checks_before : Net → Counts → Request → List Check
-checks_before net m r = refuse no_such_context (leb (size net) r.context) ∷ refuse already_off (asks_nothing m r) ∷ []
+checks_before net m r = refuse NoSuchContext (leb (size net) r.context) ∷ refuse AlreadyOff (asks_nothing m r) ∷ []
 
 -- an activation whose context holds no more tokens after its step than before it
 abbrev pub gains_nothing : Counts → Request → Counts → Bool
 gains_nothing before r after = r.on && leb (after r.context) (before r.context)
 
--- And those when its step has ended. The third is document 02's request c: a suggestion can swallow what the request, or a relation, asked
+-- And those when its step has ended. The third: a suggestion can swallow what the request, or a relation, asked
 -- on. A deactivation never meets it.
 abbrev pub checks_after : Net → Counts → Request → Outcome → List Check
 checks_after net m r o =
-    refuse step_limit_met (not o.quiet)
-    ∷ refuse tokens_left (not (clear net o.marking))
-    ∷ refuse not_raised (gains_nothing m r o.marking.count)
+    refuse StepLimitMet (not o.quiet)
+    ∷ refuse TokensLeft (not (clear net o.marking))
+    ∷ refuse NotRaised (gains_nothing m r o.marking.count)
     ∷ []
 
 -- what a request does to counts: the answer, and the counts after it
@@ -80,7 +78,7 @@ pub record Effect : Type 0 where
 abbrev pub without_firings : Verdict → Answer
 without_firings v = record { verdict = v; firings = 0; forced = 0 }
 
--- The answer to a request whose step ended so: it tells the firings, and how many of them were forced (document 02, request b).
+-- The answer to a request whose step ended so: it tells the firings, and how many of them were forced.
 abbrev pub with_firings : Outcome → Verdict → Answer
 with_firings o v = record { verdict = v; firings = length o.fired; forced = forced_count o.fired }
 
@@ -106,19 +104,13 @@ pub record Entry : Type 0 where
   pub request : Request
   pub before : Counts
 
--- The machine's state without its totals. Both lists have the newest request first: the paper's end of a list is its head here. The settled
+-- The machine's state without its totals. Both lists have the newest request first: the end of a list is its head here. The settled
 -- list is only written.
 pub record Board : Type 0 where
   pub net : Net
   pub counts : Counts
   pub settled : List Request
   pub opened : List Entry
-
--- the three totals
-pub record Tally : Type 0 where
-  pub granted : ℕ
-  pub refused : ℕ
-  pub undone : ℕ
 
 -- the whole state
 pub record State : Type 0 where
@@ -160,7 +152,7 @@ make_request b r =
 
 -- Undo on a board with this open list: the newest request goes and its counts come back; refused where there is none.
 unfoldable pub undo_from : Board → List Entry → Reply
-undo_from b [] = record { answer = without_firings (Refused nothing_open); board = b }
+undo_from b [] = record { answer = without_firings (Refused NothingOpen); board = b }
 undo_from b (last ∷ rest) =
     record {
       answer = without_firings Granted;
@@ -241,7 +233,7 @@ pub record Reading : Type 0 where
 
 -- its one check
 abbrev pub reading_checks : ℕ → ℕ → List Check
-reading_checks n c = refuse no_such_context (leb n c) ∷ []
+reading_checks n c = refuse NoSuchContext (leb n c) ∷ []
 
 -- The reading of context c in a net of n contexts where c's count is this; a refused one shows 0. It sees no other count and no list.
 unfoldable pub reading : ℕ → ℕ → ℕ → Reading

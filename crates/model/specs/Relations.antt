@@ -1,8 +1,8 @@
--- Document 01, "Places and relations", with the kind that document 02's request c adds: contexts, relations, nets, and the faults that
--- refusals 5, 6 and 7 name.
+-- docs/MACHINE.md, "Relations": contexts, relations, nets, and the faults that refusals 5, 6 and 7 name.
 -- Assumes nothing.
 use Rattle.std.specs.Prelude.{ℕ, Bool, false, ◌&&◌, ◌||◌, List, [], ◌∷◌, eqb, ltb, leb, length, get_or}
 use Rattle.model.specs.Sets.{Set, any}
+use Rattle.model.specs.declared.Relation.{Relation}
 
 -- The kinds of relation, by their byte. An exclusion holds both ways; the others run from a to b.
 abbrev pub excludes : ℕ
@@ -23,12 +23,6 @@ suggests = 5
 -- the largest byte that is a kind
 abbrev pub last_kind : ℕ
 last_kind = suggests
-
--- a relation: its kind and its two ends
-pub record Relation : Type 0 where
-  pub kind : ℕ
-  pub a : ℕ
-  pub b : ℕ
 
 -- When two relations say the same: they agree in all three parts, or both are exclusions with their ends exchanged.
 unfoldable pub same : Relation → Relation → Bool

@@ -1,6 +1,7 @@
 -- The words that every later definition uses: sets of numbers, tests over a range or a list, lists.
 -- Assumes nothing.
-use Rattle.std.specs.Prelude.{ℕ, zero, suc, ◌+◌, ◌*◌, ◌<◌, Bool, true, false, ◌&&◌, ◌||◌, not, List, [], ◌∷◌, ◌++◌, eqb}
+use Rattle.std.specs.Prelude.{ℕ, zero, suc, ◌+◌, ◌*◌, ◌<◌, Bool, true, false, ◌&&◌, ◌||◌, not, List, [], ◌∷◌, eqb}
+use Rattle.std.specs.List.{list_any, list_all, flat_map}
 
 -- A set of places of one kind is named by their contexts. It is a test, so that nothing here depends on a width.
 abbrev pub Set : Type 0
@@ -37,17 +38,14 @@ unfoldable pub all_below : ℕ → Set → Bool
 all_below zero f = true
 all_below (suc n) f = all_below n f && f n
 
+-- some element of the list passes the test, and each does
+abbrev pub any : {A : Type 0} → (A → Bool) → List A → Bool
+any = list_any
+
+abbrev pub all : {A : Type 0} → (A → Bool) → List A → Bool
+all = list_all
+
 module _ {ℓ} {A : Type ℓ} where
-  -- some element passes the test
-  abbrev pub any : (A → Bool) → List A → Bool
-  any f [] = false
-  any f (x ∷ xs) = f x || any f xs
-
-  -- each element passes the test
-  abbrev pub all : (A → Bool) → List A → Bool
-  all f [] = true
-  all f (x ∷ xs) = f x && all f xs
-
   -- how many elements pass the test
   abbrev pub count_passing : (A → Bool) → List A → ℕ
   count_passing f [] = 0
@@ -65,11 +63,9 @@ module _ {ℓ} {A : Type ℓ} where
       nil : Each P []
       cons : {x : A} {xs : List A} → P x → Each P xs → Each P (x ∷ xs)
 
-module _ {ℓ κ} {A : Type ℓ} {B : Type κ} where
-  -- the lists f x, for each x of the list, one behind the other
-  abbrev pub concat_map : (A → List B) → List A → List B
-  concat_map f [] = []
-  concat_map f (x ∷ xs) = f x ++ concat_map f xs
+-- the lists f x, for each x of the list, one behind the other
+abbrev pub concat_map : {A B : Type 0} → (A → List B) → List A → List B
+concat_map = flat_map
 
 -- the numbers from i on, n of them
 abbrev pub range : ℕ → ℕ → List ℕ

@@ -1,8 +1,9 @@
--- Document 01, "Six conditions": the net of the worked examples. Contexts 0 to 5 are DUMPED (the one with capacity 1), RESET, POWERED, SOAK,
+-- docs/MACHINE.md, "The six conditions": the net of the worked examples. Contexts 0 to 5 are DUMPED (the one with capacity 1), RESET, POWERED, SOAK,
 -- BATTERYOUT and LOGGING.
 -- Assumes nothing.
 use Rattle.std.specs.Prelude.{ℕ, [], ◌∷◌}
-use Rattle.model.specs.Relations.{Net, Relation, excludes, causes, implies, requires}
+use Rattle.model.specs.Relations.{Net, excludes, causes, implies, requires}
+use Rattle.model.specs.declared.Relation.{Relation}
 
 abbrev pub relation : ℕ → ℕ → ℕ → Relation
 relation k a b = record { kind = k; a = a; b = b }

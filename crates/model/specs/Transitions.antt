@@ -1,10 +1,11 @@
--- Document 01, "Transitions", and document 02, request c: the five forms, their arcs and priorities, and their numbers.
+-- docs/MACHINE.md, "Transitions": the five forms, their arcs and priorities, and their numbers.
 -- In the field's terms a transition takes from its input places, gives to its output places and is stopped by its inhibitor places.
 -- Every arc has weight 1, and since a set is a test, an arc that two relations ask for is one arc.
 -- Assumes nothing.
 use Rattle.std.specs.Prelude.{ℕ, Bool, true, false, ◌&&◌, ◌||◌, not, cond, List, [], ◌∷◌, ◌++◌, eqb}
 use Rattle.model.specs.Sets.{Set, empty_set, singleton, concat_map, range}
-use Rattle.model.specs.Relations.{Net, Relation, size, related, excluded, causes, implies, requires, suggests}
+use Rattle.model.specs.Relations.{Net, size, related, excluded, causes, implies, requires, suggests}
+use Rattle.model.specs.declared.Relation.{Relation}
 
 -- which of the five forms a transition has
 pub data Role : Type 0 where
@@ -36,7 +37,7 @@ forces_off forces = true
 forces_off drops = false
 forces_off declines = false
 
--- whether a transition has it: document 02, request b counts the firings of these
+-- whether a transition has it: a step counts the firings of these
 abbrev pub is_forced : Transition → Bool
 is_forced t = forces_off t.role
 
@@ -115,7 +116,7 @@ drop_of b =
       inhib_pr = empty_set;
     }
 
--- The decline of "a suggests b" swallows a token of Pr(b), whichever relation or request it came from (document 02, request c). Nothing
+-- The decline of "a suggests b" swallows a token of Pr(b), whichever relation or request it came from. Nothing
 -- inhibits it, but its priority is the lower one: it fires only where nothing of the higher one can.
 unfoldable pub decline_of : ℕ → Transition
 decline_of b =
@@ -145,8 +146,7 @@ extra rels r =
 unfoldable pub context_transitions : List Relation → ℕ → List Transition
 context_transitions rels c = act rels c ∷ deac rels c ∷ []
 
--- The extra transitions in the order of their relations. Each gets its arcs from all of `rels`, from the relations behind its own too, as
--- 001's Definition 5 asks.
+-- The extra transitions in the order of their relations. Each gets its arcs from all of `rels`, from the relations behind its own too.
 unfoldable pub extra_transitions : List Relation → List Transition
 extra_transitions rels = concat_map (extra rels) rels
 

@@ -1,12 +1,19 @@
-// The public words of the machine. What they mean is in specs/: Machine.antt for the calls and their answers,
-// Refusals.antt for a verdict's number.
+//! The public words of the machine: calls and requests, verdicts and refusals, answers, totals, relations.
+//! What they mean is in specs/: Machine for the calls and their answers, Refusals for the numbers.
 #![tactic(auto)]
 
 ghost use Rattle.std.specs.Prelude.{◌≡◌};
-ghost use Rattle.model.specs.Refusals.{verdict_number};
+ghost use Rattle.model.specs.Refusals.{number_of, verdict_number, is_granted};
+ghost use Rattle.model.specs.Machine.{without_firings};
 
-// The four calls; a request carries the number of its context.
-#[derive(Clone, Copy)]
+mod calls;
+mod refusals;
+mod tallies;
+
+pub use refusals::UnknownRefusal;
+
+/// The four calls; a request carries the number of its context.
+#[derive(Clone, Copy, Debug, PartialEq, Eq)]
 pub enum Call {
     Activate(usize),
     Deactivate(usize),
@@ -14,73 +21,101 @@ pub enum Call {
     Settle,
 }
 
-// Whether a call was granted, and with which number it was refused where it was not.
-#[derive(Clone, Copy)]
-pub enum Verdict {
-    Granted,
-    Refused(u8),
+/// An activation (`on`) or a deactivation of a context.
+#[derive(Clone, Copy, Debug, PartialEq, Eq)]
+pub struct Request {
+    pub on: bool,
+    pub context: usize,
 }
 
-// The number that stands for a verdict in answers and listings: 0, or the refusal's.
-pub fn number(verdict: Verdict) -> u8
-    ensures { result ≡ verdict_number verdict }
-{
-    match verdict {
-        Verdict::Granted => 0,
-        Verdict::Refused(k) => k,
+/// Why a call, an image or a composing was refused. The discriminants are the numbers in answers and listings.
+#[derive(Clone, Copy, Debug, PartialEq, Eq)]
+pub enum Refusal {
+    ShortImage = 1,
+    OtherEdition = 2,
+    WrongSizes = 3,
+    WrongLayout = 4,
+    ZeroCapacity = 5,
+    WrongRelation = 6,
+    RepeatedRelation = 7,
+    ShortOutput = 8,
+    WrongRecords = 9,
+    NoSuchContext = 10,
+    StepLimitMet = 11,
+    TokensLeft = 12,
+    NothingOpen = 13,
+    AlreadyOff = 14,
+    NotRaised = 15,
+}
+
+impl Refusal {
+    /// The number that stands for the refusal in answers and listings.
+    pub fn number(self) -> u8
+        ensures { result ≡ number_of self }
+    {
+        self as u8
     }
 }
 
-// What a call is answered: the verdict, how many transitions fired, also where they were rolled back, and how many of these were forced.
-#[derive(Clone, Copy)]
+/// Whether a call was granted, and why it was refused where it was not.
+#[derive(Clone, Copy, Debug, PartialEq, Eq)]
+pub enum Verdict {
+    Granted,
+    Refused(Refusal),
+}
+
+impl Verdict {
+    /// The number that stands for the verdict in answers and listings: 0, or the refusal's.
+    pub fn number(self) -> u8
+        ensures { result ≡ verdict_number self }
+    {
+        match self {
+            Verdict::Granted => 0,
+            Verdict::Refused(refusal) => refusal.number(),
+        }
+    }
+
+    pub fn is_granted(self) -> bool
+        ensures { result ≡ is_granted self }
+    {
+        matches!(self, Verdict::Granted)
+    }
+}
+
+/// What a call is answered: the verdict, how many transitions fired, also where they were rolled back, and how many of these were forced.
+#[derive(Clone, Copy, Debug, PartialEq, Eq)]
 pub struct Answer {
     pub verdict: Verdict,
     pub firings: usize,
     pub forced: usize,
 }
 
-// The refusals by name; what each looks for is in specs/.
-// An image too short to hold a trailer.
-pub const SHORT_IMAGE: u8 = 1;
+impl Answer {
+    /// An answer where nothing fired.
+    pub fn unfired(verdict: Verdict) -> Self
+        ensures { result ≡ without_firings verdict }
+    {
+        Answer {
+            verdict,
+            firings: 0,
+            forced: 0,
+        }
+    }
+}
 
-// An edition that is not this format's.
-pub const OTHER_EDITION: u8 = 2;
+/// How many requests were granted, how many requests and undos were refused, and how many requests were undone. Each total stops at the
+/// largest `u32`.
+#[derive(Clone, Copy, Debug, Default, PartialEq, Eq)]
+pub struct Tally {
+    pub granted: u32,
+    pub refused: u32,
+    pub undone: u32,
+}
 
-// n or r outside the limits, or relation bytes that are not whole triples.
-pub const WRONG_SIZES: u8 = 3;
-
-// A distance or the length that does not follow from the trailer.
-pub const WRONG_LAYOUT: u8 = 4;
-
-// A capacity of 0.
-pub const ZERO_CAPACITY: u8 = 5;
-
-// A relation of no kind, with an end that is no context, or with equal ends.
-pub const WRONG_RELATION: u8 = 6;
-
-// A relation that repeats an earlier one.
-pub const REPEATED_RELATION: u8 = 7;
-
-// An output too short for the image.
-pub const SHORT_OUTPUT: u8 = 8;
-
-// Records that are not those of the composed net.
-pub const WRONG_RECORDS: u8 = 9;
-
-// A context that the net does not have.
-pub const NO_SUCH_CONTEXT: u8 = 10;
-
-// A step that met its limit with a transition still enabled.
-pub const STEP_LIMIT_MET: u8 = 11;
-
-// A quiet step that left a token on a temporary place.
-pub const TOKENS_LEFT: u8 = 12;
-
-// An undo with nothing open.
-pub const NOTHING_OPEN: u8 = 13;
-
-// A deactivation of a context that is not active.
-pub const ALREADY_OFF: u8 = 14;
-
-// An activation that left its context no higher than it was.
-pub const NOT_RAISED: u8 = 15;
+/// A relation as its three bytes: its kind, and its two ends. Not every value fits a net.
+#[derive(Clone, Copy, Debug, PartialEq, Eq)]
+pub struct Relation {
+    pub kind: u8,
+    pub a: u8,
+    pub b: u8,
+}

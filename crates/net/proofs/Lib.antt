@@ -1,1 +1,5 @@
-pub mod Growing
+pub mod Filling
+pub mod Nets
+pub mod Readiness
+pub mod Finding
+pub mod Choosing

@@ -1,1 +1,4 @@
 pub mod Tables
+pub mod Nets
+pub mod Markings
+pub mod Walks

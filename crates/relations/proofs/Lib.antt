@@ -1,3 +1,4 @@
 pub mod Reading
 pub mod Linking
 pub mod Repeats
+pub mod Lists

@@ -1,23 +1,27 @@
 -- One relation more: what it adds to the sets that relations link.
 -- Assumes nothing.
-use Prim.Native.Nat.{ℕ, ◌+◌, ◌*◌, ◌/◌, ◌%◌, ◌<◌, ◌≤◌}
+use Prim.Native.Nat.{ℕ, ◌+◌, ◌/◌, ◌%◌, ◌<◌, ◌≤◌}
 use native.Mathlib.Decide.{ℕ_discrete}
 use native.Mathlib.Omega.{arith}
 use mathlib.Core.Bool.{Bool, true, false, ◌&&◌, ◌||◌, cond}
 use mathlib.Core.Path.{◌≡◌, refl, sym, ap, ap₂, ◌∙◌, subst}
 use mathlib.Core.List.{List, [], ◌∷◌, ◌++◌}
 use lib.Dec.{eqb}
-use lib.ListN.{get_or, set, replicate}
+use lib.ListN.{get_or, replicate}
 use borrow.Author.Tests.{eq-eqb, eqb-true, ne_eqb}
-use Rattle.sets.specs.Sets.{members, insert, mark}
+use Rattle.sets.specs.Sets.{mark}
 use Rattle.sets.proofs.Laws.{or_false, same_bool}
 use Rattle.sets.proofs.Rows.{rows_none, rows_same, rows_mark}
 use Rattle.model.specs.Sets.{Set, number, empty_set}
-use Rattle.model.specs.Relations.{Relation, matches, related, excluded, excludes, last_kind}
+use Rattle.model.specs.Relations.{matches, related, excluded, excludes, last_kind}
+use Rattle.model.specs.declared.Relation.{Relation}
 use Rattle.model.proofs.Tests.{and_both, and_left, and_right}
-use Rattle.relations.specs.Reading.{relation, first_relations}
-use Rattle.relations.specs.Links.{word_of, grid_words, ends, Grid, Linked}
-use Rattle.relations.proofs.Reading.{same_parts, first_more, any_snoc}
+use Rattle.relations.specs.declared.kind.Kind.{Kind}
+use Rattle.relations.specs.declared.kind.Kind.TheVariants.{Excludes, Causes, Implies, Requires, Suggests}
+use Rattle.relations.specs.Kinds.{kind_number}
+use Rattle.relations.specs.Reading.{relation}
+use Rattle.relations.specs.Links.{word_of, grid_words, ends, Grid, Linked, marked}
+use Rattle.relations.proofs.Reading.{any_snoc}
 
 pub eqb_sym : (x y : ℕ) → eqb x y ≡ eqb y x
 eqb_sym x y = same_bool (eqb x y) (eqb y x) (λ e. eq-eqb y x (sym (eqb-true x y e))) (λ e. eq-eqb x y (sym (eqb-true y x e)))
@@ -101,14 +105,14 @@ one_word i k a f m =
 
 -- one word takes one member more
 grid_add : {words : List ℕ} (G : ℕ → ℕ → Set) (k a b : ℕ) → Grid words G → excludes ≤ k → k ≤ last_kind → a < 48
-    → Grid (set words (word_of k a) (number 64 (insert b (members (get_or words (word_of k a) 0))))) (add k a b G)
+    → Grid (marked words k a b) (add k a b G)
 grid_add G k a b has f l m =
     let F : ℕ → Set = λ i. G (i / 48 + excludes) (i % 48) in
     rows_same 64 grid_words (mark (word_of k a) b F) (λ i. add k a b G (i / 48 + excludes) (i % 48)) (rows_mark 64 grid_words F has (word_of k a) b _ (omega arith) refl)
     (λ i _ y _. ap (λ (t : Bool). F i y || (t && eqb y b)) (one_word i k a f m))
 
 pub joined : {words after : List ℕ} (G : ℕ → ℕ → Set) (k a b : ℕ)
-    → after ≡ set words (word_of k a) (number 64 (insert b (members (get_or words (word_of k a) 0)))) → excludes ≤ k → k ≤ last_kind → a < 48 → Grid words G → Grid after (add k a b G)
+    → after ≡ marked words k a b → excludes ≤ k → k ≤ last_kind → a < 48 → Grid words G → Grid after (add k a b G)
 joined G k a b e f l m has = subst (λ (w : List ℕ). Grid w (add k a b G)) (sym e) (grid_add G k a b has f l m)
 
 module _ (rels : List Relation) (k a b : ℕ) {words : List ℕ} where
@@ -127,9 +131,25 @@ linked_none = rows_same 64 grid_words (λ i. empty_set) (λ i. ends [] (i / 48 +
     empty true y = refl
     empty false y = refl
 
--- one relation more of those that bytes hold
-pub linked_more : (i : ℕ) (bs : List ℕ) {k a b : ℕ} {words : List ℕ} → k ≡ get_or bs (3 * i) 0 → a ≡ get_or bs (3 * i + 1) 0 → b ≡ get_or bs (3 * i + 2) 0
-    → Linked (first_relations i bs ++ (relation k a b ∷ [])) words → Linked (first_relations (i + 1) bs) words
-linked_more i bs {words = w} p s t has =
-    subst (λ (l : List Relation). Linked l w)
-    (ap (λ (r : Relation). first_relations i bs ++ (r ∷ [])) (same_parts p s t) ∙ sym (first_more i bs)) has
+-- the number of a kind is one of the five
+pub kind_least : (kind : Kind) → excludes ≤ kind_number kind
+kind_least Excludes = omega arith
+kind_least Causes = omega arith
+kind_least Implies = omega arith
+kind_least Requires = omega arith
+kind_least Suggests = omega arith
+
+pub kind_most : (kind : Kind) → kind_number kind ≤ last_kind
+kind_most Excludes = omega arith
+kind_most Causes = omega arith
+kind_most Implies = omega arith
+kind_most Requires = omega arith
+kind_most Suggests = omega arith
+
+-- that of exclusions is no other kind's
+pub kind_excludes : (kind : Kind) → kind_number kind ≡ excludes → kind ≡ Excludes
+kind_excludes Excludes e = refl
+kind_excludes Causes e = absurd (omega arith)
+kind_excludes Implies e = absurd (omega arith)
+kind_excludes Requires e = absurd (omega arith)
+kind_excludes Suggests e = absurd (omega arith)

@@ -1,6 +1,6 @@
 -- When a relation is the same as an earlier one, by what the earlier ones link.
 -- Assumes nothing.
-use Prim.Native.Nat.{ℕ, ◌+◌}
+use Prim.Native.Nat.{ℕ}
 use native.Mathlib.Decide.{ℕ_discrete}
 use mathlib.Core.Bool.{Bool, true, false, ◌&&◌, ◌||◌}
 use mathlib.Core.Path.{◌≡◌, refl, sym, ap, ap₂, ◌∙◌}
@@ -9,9 +9,9 @@ use lib.Dec.{eqb}
 use borrow.Author.Tests.{ne_eqb}
 use Rattle.sets.proofs.Laws.{or_false}
 use Rattle.model.specs.Sets.{any}
-use Rattle.model.specs.Relations.{Relation, same, matches, related, excluded, excludes, repeats, repeats_after}
-use Rattle.relations.specs.Reading.{relation, relation_at, first_relations}
-use Rattle.relations.proofs.Reading.{first_more}
+use Rattle.model.specs.declared.Relation.{Relation}
+use Rattle.model.specs.Relations.{same, matches, related, excluded, excludes, repeats, repeats_after}
+use Rattle.relations.specs.Reading.{relation}
 use Rattle.relations.specs.Links.{ends}
 use Rattle.relations.proofs.Linking.{eqb_sym, and_comm}
 
@@ -77,7 +77,6 @@ after_snoc earlier (s ∷ rels) r =
     ap (λ (t : Bool). any (same s) earlier || t) (after_snoc (s ∷ earlier) rels r)
     ∙ or_late (any (same s) earlier) (repeats_after (s ∷ earlier) rels) (same r s) (any (same r) earlier) (any (same r) rels)
 
--- one relation more of those that bytes hold
-pub repeats_more : (bs : List ℕ) (i : ℕ)
-    → repeats (first_relations (i + 1) bs) ≡ (repeats (first_relations i bs) || any (same (relation_at bs i)) (first_relations i bs))
-repeats_more bs i = ap repeats (first_more i bs) ∙ after_snoc [] (first_relations i bs) (relation_at bs i)
+-- one relation more
+pub repeats_more : (rels : List Relation) (r : Relation) → repeats (rels ++ (r ∷ [])) ≡ (repeats rels || any (same r) rels)
+repeats_more rels r = after_snoc [] rels r

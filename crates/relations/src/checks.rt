@@ -1,75 +1,55 @@
-// Relation bytes: three to a relation, its kind and its two ends. Refusals 5 and 6.
-ghost use Rattle.std.specs.Prelude.{◌≡◌, ◌+◌, ◌*◌, ◌<◌, length, get_or};
+//! The checks of a list, each over the whole of it: its sizes, its capacities, its relations.
+ghost use Rattle.std.specs.Prelude.{◌≡◌};
+ghost use Rattle.std.specs.List.{list_any};
 ghost use Rattle.model.specs.Sets.{any};
 ghost use Rattle.model.specs.Relations.{has_zero, misfit};
-ghost use Rattle.relations.specs.Reading.{relation, relations_in};
+ghost use Rattle.model.specs.Image.{edition_1, relation_from, bad_sizes};
+ghost use Rattle.relations.specs.Reading.{relations_of, misfits_triple};
 
-// The kind and the ends of relation i, which the caller keeps below their number.
-pub fn kind_at(relations: &[u8], i: usize) -> u8
-    requires { 3 * i + 2 < length relations.now }
-    ensures { result ≡ get_or relations.now (3 * i) 0 }
+use crate::kind::Kind;
+
+const MOST_CONTEXTS: usize = 48;
+
+const MOST_RELATIONS: usize = 96;
+
+/// Whether edition 1 has no net of so many contexts and relations.
+#[tactic(auto, unfolding(model::specs::Image::bad_sizes))]
+pub fn wrong_sizes(contexts: usize, relations: usize) -> bool
+    ensures { result ≡ bad_sizes edition_1 contexts relations }
 {
-    relations[3 * i]
+    contexts == 0 || contexts > MOST_CONTEXTS || relations > MOST_RELATIONS
 }
 
-pub fn source_at(relations: &[u8], i: usize) -> usize
-    requires { 3 * i + 2 < length relations.now }
-    ensures { result ≡ get_or relations.now (3 * i + 1) 0 }
-{
-    wide(relations[3 * i + 1])
-}
-
-pub fn target_at(relations: &[u8], i: usize) -> usize
-    requires { 3 * i + 2 < length relations.now }
-    ensures { result ≡ get_or relations.now (3 * i + 2) 0 }
-{
-    wide(relations[3 * i + 2])
-}
-
-fn wide(b: u8) -> usize
-    ensures { result ≡ b }
-{
-    b as usize
-}
-
-// Refusal 5: a capacity is 0.
-pub fn has_zero(capacities: &[u8]) -> bool
+/// Whether a capacity is 0.
+#[tactic(auto, unfolding(model::specs::Relations::has_zero))]
+pub(crate) fn has_zero(capacities: &[u8]) -> bool
     ensures { result ≡ has_zero capacities.now }
 {
-    let mut c = 0;
-    while c < capacities.len() {
-        if capacities[c] == 0 {
-            return true;
-        }
-        c += 1;
-    }
-    false
+    capacities.contains(&0)
 }
 
-// Refusal 6 of one relation among n contexts.
-fn misfit(k: u8, a: usize, b: usize, n: usize) -> bool
-    ensures { result ≡ misfit n (relation k a b) }
+// Whether a relation of three bytes has no kind, an end that is no context, or equal ends.
+#[tactic(auto, unfolding(model::specs::Relations::misfit))]
+fn misfits_triple(triple: [u8; 3], contexts: usize) -> bool
+    ensures { result ≡ misfits_triple contexts triple }
 {
-    match k {
-        1 | 2 | 3 | 4 | 5 => (n <= a) | (n <= b) | (a == b),
-        _ => true,
-    }
+    let [kind, source, target] = triple;
+    let (source, target) = (usize::from(source), usize::from(target));
+    Kind::try_from(kind).is_err() || source >= contexts || target >= contexts || source == target
 }
 
-// Refusal 6 of a list: one of its relations does not fit n contexts.
-pub fn misfits(relations: &[u8], n: usize) -> bool
-    ensures { result ≡ any (misfit n) (relations_in relations.now) }
+fn any_misfits(triples: &[[u8; 3]], contexts: usize) -> bool
+    ensures { result ≡ list_any (misfits_triple contexts) triples.now }
 {
-    let r = relations.len() / 3;
-    let mut i = 0;
-    while i < r {
-        let k = kind_at(relations, i);
-        let a = source_at(relations, i);
-        let b = target_at(relations, i);
-        if misfit(k, a, b, n) {
-            return true;
-        }
-        i += 1;
-    }
-    false
+    triples
+        .iter()
+        .any(|&triple| misfits_triple(triple, contexts))
+}
+
+/// Whether a relation does not fit so many contexts.
+#[tactic(auto, using(crate::proofs::Reading::any_relations))]
+pub(crate) fn misfits(triples: &[[u8; 3]], contexts: usize) -> bool
+    ensures { result ≡ any (misfit contexts) (relations_of triples.now) }
+{
+    any_misfits(triples, contexts)
 }

@@ -1,8 +1,12 @@
-// Relation bytes: their checks (refusals 5, 6 and 7), and what the relations link.
+//! Relations: their kinds, the checks of a list from which a net is made, and what its relations
+//! link. The rules stand in docs/MACHINE.md, "Relations" and "Refusals".
 #![tactic(auto)]
 
 mod checks;
+mod kind;
 mod links;
+mod list;
 
-pub use checks::{has_zero, kind_at, misfits, source_at, target_at};
-pub use links::{link_all, word};
+pub use checks::wrong_sizes;
+pub use kind::{Kind, UnknownKind};
+pub use list::CheckedList;

@@ -1,77 +1,86 @@
-// What relations link, as words: for each kind and context the contexts at the other ends. Refusal 7.
-ghost use Rattle.std.specs.Prelude.{◌≡◌, List, [], ◌∷◌, ◌++◌, ◌+◌, ◌*◌, ◌<◌, ◌≤◌, get_or, set};
-ghost use Rattle.sets.specs.Sets.{members, insert};
-ghost use Rattle.model.specs.Sets.{any, number};
-ghost use Rattle.model.specs.Relations.{Relation, excludes, last_kind, same, repeats};
-ghost use Rattle.relations.specs.Reading.{relation, relations_in, Checked};
-ghost use Rattle.relations.specs.Links.{word_of, Linked};
+//! What relations link: for each kind and context the contexts at the other ends.
+ghost use Rattle.std.specs.Prelude.{◌≡◌, false, [], ◌<◌, get_or};
+ghost use Rattle.model.specs.Sets.{any};
+ghost use Rattle.model.specs.Relations.{misfit, repeats};
+ghost use Rattle.relations.specs.Kinds.{kind_number};
+ghost use Rattle.relations.specs.Reading.{relation, relations_of};
+ghost use Rattle.relations.specs.Links.{word_of, Linked, marked, LinksOneMore, TellsRepeated};
 
-use crate::checks;
+use crate::kind::Kind;
 
-// Where the word of a kind and a context stands. No branch asks for the kind.
-fn word_of(k: u8, a: usize) -> usize
-    requires { (excludes ≤ k) × (k ≤ last_kind) × (a < 48) }
-    ensures { (result ≡ word_of k a) × (result < 240) }
-{
-    48 * (k as usize - 1) + a
+/// For each kind a row of words, in it for each context the set of those that it is linked with.
+#[derive(Debug, Drop)]
+pub struct Links {
+    words: [u64; 240],
 }
 
-// The word of a kind and a context.
-pub fn word(links: &[u64; 240], k: u8, a: usize) -> u64
-    requires { (excludes ≤ k) × (k ≤ last_kind) × (a < 48) }
-    ensures { result ≡ get_or links.now (word_of k a) 0 }
+// Where the word of a kind and a context stands.
+fn word_of(kind: Kind, context: usize) -> usize
+    requires { context < 48 }
+    ensures place { result ≡ word_of (kind_number kind) context }
+    ensures inside { result < 240 }
 {
-    links[word_of(k, a)]
+    48 * (usize::from(kind.number()) - 1) + context
 }
 
-// b joins the set of a.
-fn mark(links: &mut [u64; 240], k: u8, a: usize, b: usize)
-    requires { (excludes ≤ k) × (k ≤ last_kind) × (a < 48) × (b < 48) }
-    ensures { links.new ≡ set links.old (word_of k a) (number 64 (insert b (members (get_or links.old (word_of k a) 0)))) }
-{
-    let at = word_of(k, a);
-    links[at] = sets::insert(links[at], b);
-}
+impl Links {
+    /// Nothing is linked.
+    pub(crate) fn none() -> Links
+        ensures { Linked [] result.words }
+    {
+        Links { words: [0; 240] }
+    }
 
-// One relation more: an exclusion links both ways.
-fn link(links: &mut [u64; 240], k: u8, a: usize, b: usize)
-    requires { (excludes ≤ k) × (k ≤ last_kind) × (a < 48) × (b < 48) }
-    ensures { (rels : List Relation) → Linked rels links.old → Linked (rels ++ (relation k a b ∷ [])) links.new }
-{
-    match k {
-        1 => {
-            mark(links, k, a, b);
-            mark(links, k, b, a);
+    /// The contexts at the other ends of a context's relations of a kind.
+    pub(crate) fn word(&self, kind: Kind, context: usize) -> u64
+        requires { context < 48 }
+        ensures { result ≡ get_or self.now.words (word_of (kind_number kind) context) 0 }
+    {
+        self.words[word_of(kind, context)]
+    }
+
+    // b joins the set of a.
+    fn mark(&mut self, kind: Kind, a: usize, b: usize)
+        requires { (a < 48) × (b < 48) }
+        ensures { self.new.words ≡ marked self.old.words (kind_number kind) a b }
+    {
+        let at = word_of(kind, a);
+        self.words[at] = sets::insert(self.words[at], b);
+    }
+
+    // One relation more: an exclusion links both ways.
+    fn link(&mut self, kind: Kind, a: usize, b: usize)
+        requires { (a < 48) × (b < 48) }
+        ensures { LinksOneMore (relation (kind_number kind) a b) self.old.words self.new.words }
+    {
+        self.mark(kind, a, b);
+        if kind == Kind::Excludes {
+            self.mark(kind, b, a);
         }
-        _ => mark(links, k, a, b),
     }
-}
 
-// Whether a relation links what an earlier one links already.
-fn linked(links: &[u64; 240], k: u8, a: usize, b: usize) -> bool
-    requires { (excludes ≤ k) × (k ≤ last_kind) × (a < 48) × (b < 48) }
-    ensures { (rels : List Relation) → Linked rels links.now → result ≡ any (same (relation k a b)) rels }
-{
-    sets::member(word(links, k, a), b)
-}
-
-// Links all of the relations, and answers refusal 7: whether one is the same as an earlier one. The caller has run check 6, and nothing is
-// linked yet.
-pub fn link_all(relations: &[u8], links: &mut [u64; 240]) -> bool
-    requires checked { Checked relations.now }
-    requires none_linked { Linked [] links.old }
-    ensures { (result ≡ repeats (relations_in relations.now)) × Linked (relations_in relations.now) links.new }
-{
-    let r = relations.len() / 3;
-    let mut repeated = false;
-    let mut i = 0;
-    while i < r {
-        let k = checks::kind_at(relations, i);
-        let a = checks::source_at(relations, i);
-        let b = checks::target_at(relations, i);
-        repeated = repeated | linked(links, k, a, b);
-        link(links, k, a, b);
-        i += 1;
+    // Whether a relation links what an earlier one links already.
+    fn linked(&self, kind: Kind, a: usize, b: usize) -> bool
+        requires { (a < 48) × (b < 48) }
+        ensures { TellsRepeated (relation (kind_number kind) a b) self.now.words result }
+    {
+        sets::member(self.word(kind, a), b)
     }
-    repeated
+
+    /// Links all of these relations, and answers whether one is the same as an earlier one.
+    pub(crate) fn link_all(&mut self, triples: &[[u8; 3]]) -> bool
+        requires fits { any (misfit 48) (relations_of triples.now) ≡ false }
+        requires none_linked { Linked [] self.old.words }
+        ensures repeated { result ≡ repeats (relations_of triples.now) }
+        ensures linked { Linked (relations_of triples.now) self.new.words }
+    {
+        let mut repeated = false;
+        for &[kind, a, b] in triples {
+            let kind = Kind::try_from(kind).unwrap();
+            let (a, b) = (usize::from(a), usize::from(b));
+            repeated |= self.linked(kind, a, b);
+            self.link(kind, a, b);
+        }
+        repeated
+    }
 }

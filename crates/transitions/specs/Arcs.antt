@@ -1,10 +1,28 @@
 -- How the words of one transition are read: each holds one of its sets.
 -- Assumes nothing.
-use Rattle.std.specs.Prelude.{Bool, ◌&&◌, ◌≡◌, List, [], ◌∷◌, eqb}
+use Rattle.std.specs.Prelude.{ℕ, List, Bool, ◌&&◌, ◌≡◌, eqb}
 use Rattle.model.specs.Sets.{Each, number}
 use Rattle.model.specs.Relations.{Net}
-use Rattle.model.specs.Transitions.{Transition, is_forced, transitions}
+use Rattle.model.specs.Transitions.{Transition, extra, is_forced, transitions}
+use Rattle.model.specs.Image.{relation_from}
+use Rattle.relations.specs.declared.list.CheckedList.{CheckedList}
+use Rattle.relations.specs.Lists.{net_of}
 use Rattle.transitions.specs.declared.Arcs.{Arcs}
+
+-- the words of a transition
+abbrev pub arcs_of : Transition → Arcs
+arcs_of t =
+    record {
+      priority = t.priority;
+      takes_context = number 64 t.takes_context;
+      takes_pr = number 64 t.takes_pr;
+      takes_not = number 64 t.takes_not;
+      gives_context = number 64 t.gives_context;
+      gives_pr = number 64 t.gives_pr;
+      gives_not = number 64 t.gives_not;
+      inhib_context = number 64 t.inhib_context;
+      inhib_pr = number 64 t.inhib_pr;
+    }
 
 -- a word for each set of one transition
 pub record Holds (a : Arcs) (t : Transition) : Type 0 where
@@ -22,12 +40,11 @@ pub record Holds (a : Arcs) (t : Transition) : Type 0 where
 unfoldable pub unasked : Arcs → Bool
 unasked a = eqb a.takes_pr 0 && eqb a.takes_not 0
 
--- What that tells of a net's transitions: which are the forced ones. It holds where the net has at most 64 contexts (proofs/Telling).
+-- What that tells of a net's transitions: which are the forced ones. It holds where the net has at
+-- most 64 contexts (proofs/Telling).
 abbrev pub Tells : Net → Type 0
 Tells net = Each (λ (t : Transition). (a : Arcs) → Holds a t → unasked a ≡ is_forced t) (transitions net)
 
--- the words are those of the only transition of a list
-pub record HoldsOne (a : Arcs) (ts : List Transition) : Type 0 where
-  pub one : Transition
-  pub alone : ts ≡ one ∷ []
-  pub holds : Holds a one
+-- the extra transition of a relation of three bytes, in the net of a list
+abbrev pub extra_of : CheckedList → List ℕ → List Transition
+extra_of list triple = extra (net_of list).rels (relation_from triple)

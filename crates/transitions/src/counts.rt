@@ -1,23 +1,27 @@
-// How many transitions a net has.
+//! How many transitions a net has.
 ghost use Rattle.std.specs.Prelude.{◌≡◌, ◌≤◌, length};
-ghost use Rattle.model.specs.Transitions.{transitions_of};
-ghost use Rattle.relations.specs.Reading.{relations_in};
+ghost use Rattle.std.specs.List.{count_by};
+ghost use Rattle.model.specs.Transitions.{transitions};
+ghost use Rattle.relations.specs.Lists.{net_of};
+ghost use Rattle.transitions.specs.Walk.{has_extra};
 
-// How many transitions the net has: two for each context, and one for each relation of the kinds 2 to 5.
-// The caller has run the check of sizes.
-pub fn count(n: usize, relations: &[u8]) -> usize
-    requires { (n ≤ 48) × (length relations.now ≤ 288) }
-    ensures { result ≡ length (transitions_of n (relations_in relations.now)) }
+use relations::{CheckedList, Kind};
+
+// How many of the relations have an extra transition: all but the exclusions.
+fn extras(relations: &[[u8; 3]]) -> usize
+    ensures { result ≡ count_by has_extra relations.now }
 {
-    let r = relations.len() / 3;
-    let mut t = 2 * n;
-    let mut i = 0;
-    while i < r {
-        match relations::kind_at(relations, i) {
-            2 | 3 | 4 | 5 => t += 1,
-            _ => {}
-        }
-        i += 1;
+    let mut extras = 0;
+    for &[kind, _, _] in relations {
+        extras += usize::from(kind != Kind::Excludes.number());
     }
-    t
+    extras
+}
+
+/// How many transitions the net has: two for each context, and the extra ones.
+pub fn count(list: &CheckedList<'_>) -> usize
+    ensures value { result ≡ length (transitions (net_of list.now)) }
+    ensures few { result ≤ 192 }
+{
+    2 * list.contexts() + extras(list.relations())
 }

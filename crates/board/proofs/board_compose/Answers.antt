@@ -1,10 +1,9 @@
-use Rattle.board.proofs.Values.{length_value, refusal_value}
+use Rattle.std.proofs.Common.{refl, rules}
+use Rattle.board.proofs.Values.{composed_length, composed_refusal}
 use Rattle.board.proofs.board_compose.Goals as goal
 
-pub returns-in-Length : goal.returns-in-Length
-returns-in-Length c =
-    length_value c.args.capacities.now c.args.relations.now c.args.out.now _ c.compose.ensures c.in-Length.is
+pub returns-in-Ok : goal.returns-in-Ok
+returns-in-Ok c = composed_length _ _ _ _ _ c.compose.ensures.output _ refl c.in-Ok.ensures.verdict c.in-Ok.ensures.written
 
-pub returns-in-Refused : goal.returns-in-Refused
-returns-in-Refused c =
-    refusal_value c.args.capacities.now c.args.relations.now c.args.out.now _ c.compose.ensures c.in-Refused.is
+pub returns-in-Err : goal.returns-in-Err
+returns-in-Err c = composed_refusal _ _ _ _ _ c.compose.ensures.output _ c.in-Err.refused refl c.in-Err.ensures.verdict (search rules)

@@ -1,22 +1,24 @@
-use mathlib.Core.Path.{◌≡◌, refl, sym, ap, ◌∙◌}
-use mathlib.Core.Bool.{Bool, true, false, not}
-use Rattle.history.specs.Chains.{loaded}
-use Rattle.encoding.specs.Encoding.{no_calls}
-use Rattle.history.proofs.Reporting.{ran_none, ran_some}
+use Rattle.std.proofs.Common.{ap, ◌∙◌}
+use Rattle.engine.specs.View.{state}
+use Rattle.history.proofs.Ran.{ran_none, known_calls, ran_some, some_written, no_calls_where, calls_where}
+use Rattle.std.proofs.Common.{[]}
+use Rattle.std.specs.List.{list_any}
+use Rattle.history.specs.Encoding.{is_unknown}
 use Rattle.history.proofs.lists.run.Goals as goal
 
-twice : (b : Bool) → not (not b) ≡ b
-twice true = refl
-twice false = refl
+pub returns-then-not-are_calls-clause-ran : goal.returns-then-not-are_calls-clause-ran
+returns-then-not-are_calls-clause-ran c =
+    ran_none c.args.image.now c.args.calls.now c.args.out.now (no_calls_where _ _ c.are_calls.ensures c.if-not-are_calls.true)
 
-pub returns-then-not-are_calls : goal.returns-then-not-are_calls
-returns-then-not-are_calls c =
-    let bs = c.args.calls.now in
-    ran_none _ bs _ (sym (sym (twice (no_calls bs)) ∙ ap not (sym c.are_calls.ensures) ∙ ap not c.if-not-are_calls.true))
+pub run_on-requires : goal.run_on-requires
+run_on-requires c =
+    ap (list_any is_unknown) c.as_chunks.ensures.front
+    ∙ known_calls c.args.calls.now (calls_where _ _ c.are_calls.ensures c.if-not-are_calls.false)
 
-pub returns : goal.returns
-returns c =
-    let a = c.args in
-    let bs = a.calls.now in
-    ran_some a.image.now bs _ (sym (twice (no_calls bs)) ∙ ap not (sym c.are_calls.ensures) ∙ ap not c.if-not-are_calls.false) _ _
-    (c.run_on.ensures (loaded a.image.now) c.load-loaded.ensures.engine)
+pub returns-clause-ran : goal.returns-clause-ran
+returns-clause-ran c =
+    ran_some c.args.image.now c.args.calls.now c.args.out.now (state c.load-loaded.result.engine []) c.as_chunks.result.0.now _ _
+    (calls_where _ _ c.are_calls.ensures c.if-not-are_calls.false) c.load-loaded.ensures.engine c.as_chunks.ensures.front c.run_on.ensures
+
+pub returns-clause-some : goal.returns-clause-some
+returns-clause-some c = some_written _ _ _ _ _ c.run_on.ensures

@@ -1,68 +1,54 @@
--- The checks run in order; what they leave is written, and its length is the image's.
-use native.Mathlib.Omega.{arith}
-use mathlib.Core.Path.{sym, ap, ◌∙◌}
-use Rattle.model.specs.Refusals.{is_granted}
-use Rattle.relations.proofs.Linking.{linked_none}
-use Rattle.image.proofs.Given.{Given, given}
-use Rattle.image.proofs.Answering.{list_refused, output_refused, written}
+use Rattle.std.proofs.Common.{◌≡◌, ℕ, List, ◌++◌, drop, length, length-take-le, rules, arith, sym, ap, ap₂, ◌∙◌}
+use Rattle.model.specs.Image.{edition_1, image, given_net}
+use Rattle.image.specs.Trailers.{trailer_as, trailer_for}
+use Rattle.image.proofs.Verdicts.{list_refused, output_refused, written}
+use Rattle.image.proofs.Givens.{whole_by, parts_sized, image_sized}
 use Rattle.image.proofs.composing.compose.Goals as goal
 
-pub judge_given-requires : goal.judge_given-requires
-judge_given-requires c =
-    linked_none
-
-pub returns-in-Refused : goal.returns-in-Refused
-returns-in-Refused c =
+pub returns-in_err-list : goal.returns-in_err-list
+returns-in_err-list c =
     let a = c.args in
-    list_refused a.capacities.now a.relations.now a.out.now c.in-Refused.k (sym c.judge_given.ensures.0 ∙ c.in-Refused.is)
-
-pub count-t-requires : goal.count-t-requires
-count-t-requires c =
-    let passed : Given c.args.capacities.now c.args.relations.now =
-    given c.args.capacities.now c.args.relations.now (sym c.judge_given.ensures.0 ∙ c.in_default.is) in
-    (passed.composable.few, passed.composable.short)
-
-pub overflow_mul-length : goal.overflow_mul-length
-overflow_mul-length c =
-    let passed : Given c.args.capacities.now c.args.relations.now =
-    given c.args.capacities.now c.args.relations.now (sym c.judge_given.ensures.0 ∙ c.in_default.is) in
-    omega (arith, passed, passed.composable, c.count-t.ensures)
-
-pub overflow_add-length-2 : goal.overflow_add-length-2
-overflow_add-length-2 c =
-    let passed : Given c.args.capacities.now c.args.relations.now =
-    given c.args.capacities.now c.args.relations.now (sym c.judge_given.ensures.0 ∙ c.in_default.is) in
-    omega (arith, passed, passed.composable, c.count-t.ensures)
-
-pub overflow_add-length-3 : goal.overflow_add-length-3
-overflow_add-length-3 c =
-    let passed : Given c.args.capacities.now c.args.relations.now =
-    given c.args.capacities.now c.args.relations.now (sym c.judge_given.ensures.0 ∙ c.in_default.is) in
-    omega (arith, passed, passed.composable, c.count-t.ensures)
-
-pub returns-then-out-length : goal.returns-then-out-length
-returns-then-out-length c =
-    let passed : Given c.args.capacities.now c.args.relations.now =
-    given c.args.capacities.now c.args.relations.now (sym c.judge_given.ensures.0 ∙ c.in_default.is) in
-    let a = c.args in
-    let g = passed in
-    output_refused a.capacities.now a.relations.now a.out.now g (omega (arith, g.long, c.if-out-length.true, c.count-t.ensures))
-
-pub write_image-requires : goal.write_image-requires
-write_image-requires c =
-    let passed : Given c.args.capacities.now c.args.relations.now =
-    given c.args.capacities.now c.args.relations.now (sym c.judge_given.ensures.0 ∙ c.in_default.is) in
-    let g = passed in
+    let q = list_refused a.capacities.now a.relations.now a.out.now c.in_err-list.field-0.0 (sym c.in_err-list.ensures.verdict) in
     record {
-      linked = c.judge_given.ensures.1 (ap is_granted c.in_default.is);
-      writable = record { composable = g.composable; whole = g.whole; count = c.count-t.ensures; room = c.if-out-length.false };
+      verdict = search (rules, q.verdict);
+      written = search (rules, q.written);
+      output = sym q.output;
+    }
+
+pub write_image-requires-clause-whole : goal.write_image-requires-clause-whole
+write_image-requires-clause-whole c =
+    whole_by c.args.capacities.now c.args.relations.now (sym c.in_ok-list.ensures.verdict)
+
+pub write_image-requires-clause-room : goal.write_image-requires-clause-room
+write_image-requires-clause-room c =
+    let a = c.args in
+    let whole = whole_by a.capacities.now a.relations.now (sym c.in_ok-list.ensures.verdict) in
+    length-take-le _ a.out.now c.if-out-size.false
+    ∙ c.image_size-size.ensures
+    ∙ parts_sized a.capacities.now a.relations.now whole (trailer_as c.of_list-trailer.result) (c.of_list-trailer.ensures ∙ ap trailer_for c.in_ok-list.ensures.net)
+
+pub returns-then-out-size : goal.returns-then-out-size
+returns-then-out-size c =
+    let a = c.args in
+    let l = image_sized (given_net edition_1 a.capacities.now a.relations.now) (trailer_as c.of_list-trailer.result) (c.of_list-trailer.ensures ∙ ap trailer_for c.in_ok-list.ensures.net) in
+    let q = output_refused a.capacities.now a.relations.now a.out.now (sym c.in_ok-list.ensures.verdict) (omega (arith, l, c.image_size-size.ensures, c.if-out-size.true)) in
+    record {
+      verdict = sym q.verdict;
+      written = sym q.written;
+      output = sym q.output;
     }
 
 pub returns : goal.returns
 returns c =
-    let passed : Given c.args.capacities.now c.args.relations.now =
-    given c.args.capacities.now c.args.relations.now (sym c.judge_given.ensures.0 ∙ c.in_default.is) in
     let a = c.args in
-    let g = passed in
-    written a.capacities.now a.relations.now a.out.now g _ _ (omega (arith, g.long, c.count-t.ensures))
-    (omega (arith, g.long, c.if-out-length.false, c.count-t.ensures)) c.write_image.ensures
+    let net = given_net edition_1 a.capacities.now a.relations.now in
+    let l = image_sized net (trailer_as c.of_list-trailer.result) (c.of_list-trailer.ensures ∙ ap trailer_for c.in_ok-list.ensures.net) in
+    let n : c.image_size-size.result ≡ length (image edition_1 net) = c.image_size-size.ensures ∙ sym l in
+    let q = written a.capacities.now a.relations.now a.out.now (sym c.in_ok-list.ensures.verdict) (omega (arith, n, c.if-out-size.false)) in
+    record {
+      verdict = sym q.verdict;
+      written = n ∙ sym q.written;
+      output =
+          ap₂ (λ (x : List ℕ) (k : ℕ). x ++ drop k a.out.now) (c.write_image.ensures ∙ ap (image edition_1) c.in_ok-list.ensures.net) n
+          ∙ sym q.output;
+    }

@@ -1,20 +1,12 @@
--- A granted image gives its net, and a refused one the empty net.
-use mathlib.Core.Path.{sym, ap, ◌∙◌}
+use Rattle.std.proofs.Common.{sym, ap, ◌∙◌}
+use Rattle.model.specs.Image.{edition_1}
 use Rattle.model.specs.Machine.{fresh}
-use Rattle.layout.proofs.Loads.{no_net}
+use Rattle.model.proofs.Verdicts.{load_refused}
 use Rattle.image.proofs.loading.load.Goals as goal
 
-pub engine_of-requires : goal.engine_of-requires
-engine_of-requires c =
-    sym c.check.ensures ∙ c.in-Granted.is
+pub returns-in-Err-clause-engine : goal.returns-in-Err-clause-engine
+returns-in-Err-clause-engine c =
+    c.empty.ensures ∙ ap fresh (sym (load_refused edition_1 c.args.image.now c.in-Err.refusal (sym c.in-Err.ensures.verdict)).no_net)
 
-pub returns-in-Granted : goal.returns-in-Granted
-returns-in-Granted c =
-    record { verdict = sym c.in-Granted.is ∙ c.check.ensures; engine = c.engine_of.ensures }
-
-pub returns-in-Refused : goal.returns-in-Refused
-returns-in-Refused c =
-    record {
-      verdict = sym c.in-Refused.is ∙ c.check.ensures;
-      engine = c.empty.ensures ∙ ap fresh (sym (no_net c.args.image.now _ (sym c.check.ensures ∙ c.in-Refused.is)));
-    }
+pub returns-in-Err-clause-part : goal.returns-in-Err-clause-part
+returns-in-Err-clause-part c = sym (load_refused edition_1 c.args.image.now c.in-Err.refusal (sym c.in-Err.ensures.verdict)).no_part

@@ -1,27 +1,17 @@
-use Prim.Native.Nat.{ℕ, ◌/◌}
-use mathlib.Core.Path.{◌≡◌, sym, ◌∙◌}
-use native.Mathlib.Omega.{arith}
-use lib.ListN.{length}
-use Rattle.relations.specs.Reading.{relations_in}
-use Rattle.transitions.proofs.Counting.{extras_few, counts_one, counts_none, transition_total}
+use Rattle.std.proofs.Common.{arith}
+use Rattle.transitions.proofs.Walks.{few_transitions, transitions_counted}
 use Rattle.transitions.proofs.counts.count.Goals as goal
-
-pub loop-i-init : goal.loop-i-init
-loop-i-init c =
-    (omega arith, omega arith, omega arith, omega arith)
-
-pub overflow_add-t : goal.overflow_add-t
-overflow_add-t c =
-    let l = c.args.relations.now in
-    omega (arith, c.loop-i.invariant, extras_few (relations_in l) l c.loop-i.i)
-
-pub loop-i-preserved : goal.loop-i-preserved
-loop-i-preserved c =
-    (omega arith, omega arith, omega arith, grind (arith, counts_one, counts_none))
 
 pub returns : goal.returns
 returns c =
-    let a = c.args in
-    let l = a.relations.now in
-    let last : ◌≡◌ {A = ℕ} c.loop-i.i (length l / 3) = omega arith in
-    rw last at c.loop-i.invariant.3 ∙ sym (transition_total a.n (relations_in l))
+    let few = few_transitions c.args.list.now in
+    let all = transitions_counted c.args.list.now c.relations.result.now c.relations.ensures.value in
+    let contexts = c.contexts.ensures.value in
+    record { value = omega (arith, all, c.extras.ensures, contexts); few = omega (arith, all, few, c.extras.ensures, contexts) }
+
+pub overflow_add-result : goal.overflow_add-result
+overflow_add-result c =
+    let few = few_transitions c.args.list.now in
+    let all = transitions_counted c.args.list.now c.relations.result.now c.relations.ensures.value in
+    let contexts = c.contexts.ensures.value in
+    omega (arith, all, few, c.extras.ensures, contexts)

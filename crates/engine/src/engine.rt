@@ -1,0 +1,203 @@
+ghost use Rattle.std.specs.Prelude.{◌≡◌, ◌≤◌, [], length, take, ⊤};
+ghost use Rattle.std.specs.List.{slice_get};
+
+use crate::open_list::{Entry, OpenList};
+use model::{Answer, Call, Refusal, Relation, Request, Tally, Verdict};
+use net::Net;
+use relations::CheckedList;
+use std::alloc::AllocError;
+
+// The capacities, and zeros behind them.
+fn padded(capacities: &[u8]) -> [u8; 48]
+    requires { length capacities.now ≤ 48 }
+    ensures { take (length capacities.now) result ≡ capacities.now }
+{
+    let mut padded = [0; 48];
+    padded[..capacities.len()].copy_from_slice(capacities);
+    padded
+}
+
+/// A net, composed once, with its counts, its open list and its totals.
+#[derive(Debug, Drop)]
+pub struct Engine {
+    net: Net,
+    capacities: [u8; 48],
+    counts: [u8; 48],
+    // the open requests, with the counts from before them
+    opened: OpenList,
+    tally: Tally,
+}
+
+impl Engine {
+    ghost use Rattle.model.specs.Relations.{size, relation_count, empty_net};
+    ghost use Rattle.relations.specs.Reading.{relations_of};
+    ghost use Rattle.model.specs.Machine.{call_of, fresh, reading};
+    ghost use Rattle.model.specs.declared.Call.TheVariants.{Undo, Settle};
+    ghost use Rattle.engine.specs.View.{state, net_of, counts_of, tally_of, Replies, listed_counts};
+    ghost use Rattle.relations.specs.Lists;
+    ghost use Rattle.net.specs.Nets.{net_with};
+    ghost use Rattle.engine.specs.Readings.{result_of};
+
+    // The machine of a net before its first call: no tokens, nothing open, no totals.
+    fn fresh(net: Net, capacities: [u8; 48]) -> Self
+        ensures { state result [] ≡ fresh (net_with net capacities) }
+    {
+        Engine {
+            net,
+            capacities,
+            counts: [0; 48],
+            opened: OpenList::new(),
+            tally: Tally::default(),
+        }
+    }
+
+    /// The machine of a list's net before its first call.
+    pub fn new(list: &CheckedList<'_>) -> Self
+        ensures { state result [] ≡ fresh (Lists.net_of list.now) }
+    {
+        Engine::fresh(Net::new(list), padded(list.capacities()))
+    }
+
+    /// The machine of the net without contexts.
+    pub fn empty() -> Self
+        ensures { state result [] ≡ fresh empty_net }
+    {
+        Engine::fresh(Net::empty(), [0; 48])
+    }
+
+    /// How many contexts there are.
+    pub fn contexts(&self) -> usize
+        ensures contexts { result ≡ size (net_of self.now) }
+        ensures few { result ≤ 48 }
+    {
+        self.net.contexts()
+    }
+
+    /// How many relations there are.
+    pub fn relation_count(&self) -> usize
+        ensures { result ≡ relation_count (net_of self.now) }
+    {
+        self.relations().len()
+    }
+
+    /// The capacity of each context, in the order of their numbers.
+    pub fn capacities(&self) -> &[u8]
+        ensures { result.now ≡ (net_of self.now).caps }
+    {
+        &self.capacities[..self.net.contexts()]
+    }
+
+    /// The relations in their order, three bytes each: kind and ends.
+    pub fn relations(&self) -> &[[u8; 3]]
+        ensures { relations_of result.now ≡ (net_of self.now).rels }
+    {
+        self.net.relations()
+    }
+
+    /// The count of each context, in the order of their numbers.
+    pub fn counts(&self) -> &[u8]
+        ensures counts { result.now ≡ listed_counts (state self.now []) }
+        ensures few { length result.now ≤ 48 }
+    {
+        &self.counts[..self.net.contexts()]
+    }
+
+    /// The capacity of a context.
+    pub fn capacity(&self, context: usize) -> Option<u8>
+        ensures { result ≡ slice_get (net_of self.now).caps context }
+    {
+        self.capacities().get(context).copied()
+    }
+
+    /// A relation by its place in the list.
+    pub fn relation(&self, i: usize) -> Option<Relation>
+        ensures { result ≡ slice_get (net_of self.now).rels i }
+    {
+        let &[kind, a, b] = self.relations().get(i)?;
+        Some(Relation { kind, a, b })
+    }
+
+    /// The count of a context.
+    pub fn count(&self, context: usize) -> Result<u8, Refusal>
+        ensures { result ≡ result_of (reading (size (net_of self.now)) context (counts_of self.now context)) }
+    {
+        self.counts()
+            .get(context)
+            .copied()
+            .ok_or(Refusal::NoSuchContext)
+    }
+
+    /// The three totals.
+    pub fn totals(&self) -> Tally
+        ensures { result ≡ tally_of self.now }
+    {
+        self.tally
+    }
+
+    /// Takes back the newest open request.
+    #[tactic(auto, using(crate::proofs::States::undo_refused, crate::proofs::States::undo_done))]
+    pub fn undo(&mut self) -> Answer
+        ensures { Replies Undo self.old self.new result }
+    {
+        let Some(entry) = self.opened.pop() else {
+            let verdict = Verdict::Refused(Refusal::NothingOpen);
+            self.tally.count(Call::Undo, verdict);
+            return Answer::unfired(verdict);
+        };
+        let before = entry.before;
+        self.counts = before;
+        self.tally.count(Call::Undo, Verdict::Granted);
+        Answer::unfired(Verdict::Granted)
+    }
+
+    /// Settles the open list.
+    #[tactic(auto, using(crate::proofs::States::settled))]
+    pub fn settle(&mut self) -> Answer
+        ensures { Replies Settle self.old self.new result }
+    {
+        self.opened.clear();
+        self.tally.count(Call::Settle, Verdict::Granted);
+        Answer::unfired(Verdict::Granted)
+    }
+
+    #[tactic(auto, using(crate::proofs::States::request_granted, crate::proofs::States::request_refused))]
+    fn request(&mut self, request: Request) -> Answer
+        ensures { Replies (call_of request) self.old self.new result }
+    {
+        let before = self.counts;
+        let answer = requests::judge(&self.net, &self.capacities, &mut self.counts, request);
+        self.tally.count(Call::from(request), answer.verdict);
+        if answer.verdict.is_granted() {
+            self.opened.push(Entry { request, before });
+        }
+        answer
+    }
+
+    /// One call on the machine.
+    pub fn perform(&mut self, call: Call) -> Answer
+        ensures { Replies call self.old self.new result }
+    {
+        match call {
+            Call::Activate(context) => self.request(Request { on: true, context }),
+            Call::Deactivate(context) => self.request(Request { on: false, context }),
+            Call::Undo => self.undo(),
+            Call::Settle => self.settle(),
+        }
+    }
+}
+
+impl Clone for Engine {
+    ghost is_clone = { λ engine other. other ≡ engine };
+
+    ghost is_infallible = { λ _. ⊤ };
+
+    fn clone(&self) -> Result<Self, AllocError> {
+        Ok(Engine {
+            net: self.net,
+            capacities: self.capacities,
+            counts: self.counts,
+            opened: self.opened.clone()?,
+            tally: self.tally,
+        })
+    }
+}

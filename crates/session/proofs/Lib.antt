@@ -1,0 +1,11 @@
+pub mod Worked
+pub mod PrintedWorked
+pub mod Decimals
+pub mod Saying
+pub mod Spelling
+pub mod Keeping
+pub mod Contexts
+pub mod Texts
+pub mod Laws
+pub mod Reading
+pub mod Breaking

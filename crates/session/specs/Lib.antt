@@ -1,0 +1,13 @@
+pub mod Ascii
+pub mod Decimals
+pub mod Calls
+pub mod Kept
+pub mod Claims
+pub mod Examples
+pub mod Answers
+pub mod Printed
+pub mod Lines
+pub mod Transcripts
+pub mod Points
+pub mod Stops
+pub mod Sessions

@@ -1,5 +1,0 @@
-pub mod Triples
-pub mod States
-pub mod Boards
-pub mod Raising
-pub mod Replying

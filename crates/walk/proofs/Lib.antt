@@ -1,3 +1,0 @@
-pub mod Readiness
-pub mod Finding
-pub mod Choosing

@@ -1,2 +1,0 @@
-pub mod Markings
-pub mod Walks
