@@ -59,7 +59,7 @@ say('5', 'functions that take on, c', par(r'on: bool, c: usize'))
 say('5', 'functions that take out and a place in it', par(r'out: &mut \[u8[^,]*, (at|start): usize'))
 say('5', 'contracts that quantify over rels', cla(r'\(rels : List Relation\)'))
 say('5', 'contracts that quantify over net', cla(r'\(net : Net\) '))
-for w, rx in (('n ≤ 48', r'n ≤ 48'), ('a context below 48', r'\b[ac] < 48'), ('a kind in its range', r'k ≤ last_kind'), ('Linked', r'requires[^\n]*Linked'), ('Composable', r'Composable'), ('LaidOut', r'LaidOut')):
+for w, rx in (('n ≤ 48', r'\b(n|contexts) ≤ 48'), ('a context below 48', r'\b(a|c|context) < 48'), ('a kind in its range', r'k ≤ last_kind'), ('Linked', r'requires[^\n]*Linked'), ('Composable', r'Composable'), ('LaidOut', r'LaidOut')):
     say('5', 'contracts with ' + w, cla(rx))
 # 6
 say('6', 'flattened tables: links 5 x 48, markings 32 x 48, temps 2 x 48', par(r'\[u64; 240\]|\[u8; 1536\]|\[u16; 96\]'))

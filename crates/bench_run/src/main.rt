@@ -1,10 +1,8 @@
 //! The program bench-run: loads bench.net, reads one call a line, and prints a line for each (docs/MACHINE.md, "bench-run").
 #![tactic(auto)]
 
-ghost use Rattle.std.specs.Prelude.{◌≡◌, length};
-
 use engine::Engine;
-use session::{Stop, talk};
+use session::talk;
 use std::fs::File;
 use std::io;
 use std::rt::Files;
@@ -21,9 +19,6 @@ fn load(rt: &impl Files) -> Engine {
 }
 
 fn main(rt: HostRuntime) -> io::Result<()> {
-    match talk(&mut rt.stdin(), &mut rt.stdout(), load(&rt)) {
-        Ok(_) => Ok(()),
-        Err(Stop::Read(error)) => Err(error),
-        Err(Stop::Write(error)) => Err(error),
-    }
+    talk(&mut rt.stdin(), &mut rt.stdout(), load(&rt))?;
+    Ok(())
 }

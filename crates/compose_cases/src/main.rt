@@ -2,54 +2,52 @@
 //! of the listing are described in reference/README.md; the stored listing is that of `reference`.
 #![tactic(auto)]
 
-ghost use Rattle.std.specs.Prelude.{◌≡◌, length};
-
+use listing::List;
 use std::io;
 use std::io::{Read, Write};
 
-/// Composes a case into the room that is lent, and prints its line.
-fn compose_case(
-    out: &mut impl Write,
-    capacities: &[u8],
-    relations: &[u8],
-    room: &mut [u8],
-) -> io::Result<()> {
-    let (number, length) = match image::compose(capacities, relations, room) {
-        Ok(length) => (0, length),
-        Err(refusal) => (refusal.number(), 0),
-    };
-    writeln!(out, "{number} {length} {}", listing::hash(0, room))
+/// A list, and how many bytes its image may have.
+#[derive(Clone, Copy, Debug, PartialEq, Eq)]
+struct Case<'a> {
+    list: List<'a>,
+    // a `u16`, not a `pair`: its type says that the output has so much room
+    room: u16,
 }
 
-/// Reads and composes one case, and returns whether it was there.
-fn next_case(input: &mut impl Read, out: &mut impl Write) -> io::Result<bool> {
-    let mut header = [0; 6];
-    if listing::read(input, &mut header, 6).is_none() {
-        return Ok(false);
-    }
-    let [n, n_high, m, m_high, room, room_high] = header;
-    let mut capacities = listing::large_buffer();
-    let mut relations = listing::large_buffer();
-    let Some(capacities) = listing::read(input, &mut capacities, listing::pair(n, n_high)) else {
-        return Ok(false);
-    };
-    let Some(relations) = listing::read(input, &mut relations, listing::pair(m, m_high)) else {
-        return Ok(false);
-    };
+/// The next case of the stream, in the buffers that are lent; nothing where the stream has ended.
+fn next_case<'a>(
+    input: &mut impl Read,
+    capacities: &'a mut [u8],
+    relations: &'a mut [u8],
+) -> Option<Case<'a>> {
+    let [n, n_high, m, m_high, room, room_high] = listing::read_array::<6>(input)?;
+    let lengths = [listing::pair(n, n_high), listing::pair(m, m_high)];
+    Some(Case {
+        list: listing::read_list(input, capacities, relations, lengths)?,
+        room: u16::from_le_bytes([room, room_high]),
+    })
+}
+
+/// Composes a case, and prints its line.
+fn put_case(out: &mut impl Write, case: Case<'_>) -> io::Result<()> {
     let mut bytes: [u8; 65536] = listing::filled(165);
-    let room = listing::pair(room, room_high);
-    compose_case(out, capacities, relations, &mut bytes[..room])?;
-    Ok(true)
+    let room = &mut bytes[..usize::from(case.room)];
+    let composed = image::compose(case.list.capacities, case.list.relations, room);
+    let (number, length) = listing::outcome(composed);
+    writeln!(out, "{number} {length} {}", listing::hash(0, room))
 }
 
 // A proved loop has to end, so this one has a bound, which no stream comes up to.
 fn main(rt: HostRuntime) -> io::Result<()> {
     let mut input = rt.stdin();
     let mut out = rt.stdout();
+    let mut capacities = listing::large_buffer();
+    let mut relations = listing::large_buffer();
     for _ in 0..u64::MAX {
-        if !next_case(&mut input, &mut out)? {
+        let Some(case) = next_case(&mut input, &mut capacities, &mut relations) else {
             break;
-        }
+        };
+        put_case(&mut out, case)?;
     }
     Ok(())
 }

@@ -2,9 +2,8 @@
 //! the form of the listing are described in reference/README.md; the stored listing is that of `reference`.
 #![tactic(auto)]
 
-ghost use Rattle.std.specs.Prelude.{◌≡◌, length};
-
 use engine::Engine;
+use listing::List;
 use model::{Answer, Call};
 use std::io;
 use std::io::{Read, Write};
@@ -17,19 +16,22 @@ struct Asked {
     verbose: bool,
 }
 
+/// Why the listing ends: the stream has ended, or has what is no call; or a write failed.
+#[derive(Debug, Drop)]
+enum End {
+    Stream,
+    Write(io::Error),
+}
+
+impl From<io::Error> for End {
+    fn from(error: io::Error) -> End {
+        End::Write(error)
+    }
+}
+
 /// The next call of the stream, three bytes.
 fn read_call(input: &mut impl Read) -> Option<Call> {
-    let mut bytes = [0; 3];
-    listing::read(input, &mut bytes, 3)?;
-    let [kind, low, high] = bytes;
-    let context = listing::pair(low, high);
-    match kind {
-        0 => Some(Call::Activate(context)),
-        1 => Some(Call::Deactivate(context)),
-        2 => Some(Call::Undo),
-        3 => Some(Call::Settle),
-        _ => None,
-    }
+    Call::try_from(listing::read_array(input)?).ok()
 }
 
 /// The hash with an answer more, and with the counts and totals after it.
@@ -54,19 +56,16 @@ fn print_call(out: &mut impl Write, answer: Answer, engine: &Engine) -> io::Resu
     writeln!(out)
 }
 
-/// Makes the calls of a frame, prints the hash over all of them and the totals, and returns whether the calls were there.
+/// Makes the calls of a frame, and prints the hash over all of them and the totals.
 fn make_calls(
     input: &mut impl Read,
     out: &mut impl Write,
     engine: &mut Engine,
     asked: Asked,
-) -> io::Result<bool> {
+) -> Result<(), End> {
     let mut sum = 0;
     for _ in 0..asked.calls {
-        let Some(call) = read_call(input) else {
-            return Ok(false);
-        };
-        let answer = engine.perform(call);
+        let answer = engine.perform(read_call(input).ok_or(End::Stream)?);
         if asked.verbose {
             print_call(out, answer, engine)?;
         }
@@ -78,22 +77,18 @@ fn make_calls(
         "{sum} {} {} {}",
         totals.granted, totals.refused, totals.undone
     )?;
-    Ok(true)
+    Ok(())
 }
 
-/// Damages the image in so many places, where each has a byte, and returns whether the damages were there.
-fn damage(input: &mut impl Read, image: &mut [u8], count: u8) -> bool {
+/// Damages the image in so many places, where each has a byte; nothing where the stream ends before.
+fn damage(input: &mut impl Read, image: &mut [u8], count: u8) -> Option<()> {
     for _ in 0..count {
-        let mut bytes = [0; 3];
-        if listing::read(input, &mut bytes, 3).is_none() {
-            return false;
-        }
-        let [low, high, b] = bytes;
+        let [low, high, b] = listing::read_array::<3>(input)?;
         if let Some(place) = image.get_mut(listing::pair(low, high)) {
             *place = b;
         }
     }
-    true
+    Some(())
 }
 
 /// Damages an image, loads it and makes the calls.
@@ -102,10 +97,8 @@ fn run_image(
     out: &mut impl Write,
     image: &mut [u8],
     asked: Asked,
-) -> io::Result<bool> {
-    if !damage(input, image, asked.damages) {
-        return Ok(false);
-    }
+) -> Result<(), End> {
+    damage(input, image, asked.damages).ok_or(End::Stream)?;
     let loaded = image::load(image);
     let mut engine = loaded.engine;
     listing::print_load(out, loaded.verdict, &engine, loaded.part)?;
@@ -116,44 +109,32 @@ fn run_image(
 fn run_frame(
     input: &mut impl Read,
     out: &mut impl Write,
-    capacities: &[u8],
-    relations: &[u8],
+    list: List<'_>,
     asked: Asked,
-) -> io::Result<bool> {
+) -> Result<(), End> {
     // room enough for any image
     let mut room: [u8; 10240] = listing::filled(0);
-    let (number, length) = match image::compose(capacities, relations, &mut room) {
-        Ok(length) => (0, length),
-        Err(refusal) => (refusal.number(), 0),
-    };
+    let composed = image::compose(list.capacities, list.relations, &mut room);
+    let (number, length) = listing::outcome(composed);
     write!(out, "{number} ")?;
-    match room.get_mut(..length) {
-        Some(image) => run_image(input, out, image, asked),
-        None => Ok(false),
-    }
+    let image = room.get_mut(..length).ok_or(End::Stream)?;
+    run_image(input, out, image, asked)
 }
 
-/// Reads and runs one frame, and returns whether it was there.
-fn next_frame(input: &mut impl Read, out: &mut impl Write) -> io::Result<bool> {
-    let mut header = [0; 8];
-    if listing::read(input, &mut header, 8).is_none() {
-        return Ok(false);
-    }
+/// Reads and runs one frame.
+fn next_frame(input: &mut impl Read, out: &mut impl Write) -> Result<(), End> {
+    let header = listing::read_array::<8>(input).ok_or(End::Stream)?;
     let [n, n_high, m, m_high, calls, calls_high, damages, verbose] = header;
+    let lengths = [listing::pair(n, n_high), listing::pair(m, m_high)];
     let mut capacities = listing::large_buffer();
     let mut relations = listing::large_buffer();
-    let Some(capacities) = listing::read(input, &mut capacities, listing::pair(n, n_high)) else {
-        return Ok(false);
-    };
-    let Some(relations) = listing::read(input, &mut relations, listing::pair(m, m_high)) else {
-        return Ok(false);
-    };
+    let list = listing::read_list(input, &mut capacities, &mut relations, lengths);
     let asked = Asked {
         damages,
         calls: listing::pair(calls, calls_high),
         verbose: verbose == 1,
     };
-    run_frame(input, out, capacities, relations, asked)
+    run_frame(input, out, list.ok_or(End::Stream)?, asked)
 }
 
 // A proved loop has to end, so this one has a bound, which no stream comes up to.
@@ -161,8 +142,10 @@ fn main(rt: HostRuntime) -> io::Result<()> {
     let mut input = rt.stdin();
     let mut out = rt.stdout();
     for _ in 0..u64::MAX {
-        if !next_frame(&mut input, &mut out)? {
-            break;
+        match next_frame(&mut input, &mut out) {
+            Ok(()) => {}
+            Err(End::Stream) => break,
+            Err(End::Write(error)) => return Err(error),
         }
     }
     Ok(())

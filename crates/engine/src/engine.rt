@@ -1,24 +1,14 @@
-ghost use Rattle.std.specs.Prelude.{◌≡◌, ◌≤◌, [], length, take, ⊤};
+//! The engine: its four calls, and what can be read of it.
+ghost use Rattle.std.specs.Prelude.{◌≡◌, ◌≤◌, [], length};
 ghost use Rattle.std.specs.List.{slice_get};
 
 use crate::open_list::{Entry, OpenList};
 use model::{Answer, Call, Refusal, Relation, Request, Tally, Verdict};
 use net::Net;
 use relations::CheckedList;
-use std::alloc::AllocError;
-
-// The capacities, and zeros behind them.
-fn padded(capacities: &[u8]) -> [u8; 48]
-    requires { length capacities.now ≤ 48 }
-    ensures { take (length capacities.now) result ≡ capacities.now }
-{
-    let mut padded = [0; 48];
-    padded[..capacities.len()].copy_from_slice(capacities);
-    padded
-}
 
 /// A net, composed once, with its counts, its open list and its totals.
-#[derive(Debug, Drop)]
+#[derive(Clone, Debug, Drop)]
 pub struct Engine {
     net: Net,
     capacities: [u8; 48],
@@ -33,7 +23,7 @@ impl Engine {
     ghost use Rattle.relations.specs.Reading.{relations_of};
     ghost use Rattle.model.specs.Machine.{call_of, fresh, reading};
     ghost use Rattle.model.specs.declared.Call.TheVariants.{Undo, Settle};
-    ghost use Rattle.engine.specs.View.{state, net_of, counts_of, tally_of, Replies, listed_counts};
+    ghost use Rattle.engine.specs.View.{state, net_of, counts_of, tally_of, Moves, Replies, listed_counts};
     ghost use Rattle.relations.specs.Lists;
     ghost use Rattle.net.specs.Nets.{net_with};
     ghost use Rattle.engine.specs.Readings.{result_of};
@@ -55,7 +45,7 @@ impl Engine {
     pub fn new(list: &CheckedList<'_>) -> Self
         ensures { state result [] ≡ fresh (Lists.net_of list.now) }
     {
-        Engine::fresh(Net::new(list), padded(list.capacities()))
+        Engine::fresh(Net::new(list), net::padded(list.capacities(), 0))
     }
 
     /// The machine of the net without contexts.
@@ -134,39 +124,38 @@ impl Engine {
         self.tally
     }
 
-    /// Takes back the newest open request.
+    // Takes back the newest open request.
     #[tactic(auto, using(crate::proofs::States::undo_refused, crate::proofs::States::undo_done))]
-    pub fn undo(&mut self) -> Answer
-        ensures { Replies Undo self.old self.new result }
+    fn take_back(&mut self) -> Answer
+        ensures moves { Moves Undo self.old self.new result }
+        ensures uncounted { self.new.tally ≡ self.old.tally }
     {
         let Some(entry) = self.opened.pop() else {
-            let verdict = Verdict::Refused(Refusal::NothingOpen);
-            self.tally.count(Call::Undo, verdict);
-            return Answer::unfired(verdict);
+            return Answer::unfired(Verdict::Refused(Refusal::NothingOpen));
         };
         let before = entry.before;
         self.counts = before;
-        self.tally.count(Call::Undo, Verdict::Granted);
         Answer::unfired(Verdict::Granted)
     }
 
-    /// Settles the open list.
+    // Nothing that was open can be taken back any more.
     #[tactic(auto, using(crate::proofs::States::settled))]
-    pub fn settle(&mut self) -> Answer
-        ensures { Replies Settle self.old self.new result }
+    fn close(&mut self) -> Answer
+        ensures moves { Moves Settle self.old self.new result }
+        ensures uncounted { self.new.tally ≡ self.old.tally }
     {
         self.opened.clear();
-        self.tally.count(Call::Settle, Verdict::Granted);
         Answer::unfired(Verdict::Granted)
     }
 
+    // Makes a request, which is open where it is granted.
     #[tactic(auto, using(crate::proofs::States::request_granted, crate::proofs::States::request_refused))]
     fn request(&mut self, request: Request) -> Answer
-        ensures { Replies (call_of request) self.old self.new result }
+        ensures moves { Moves (call_of request) self.old self.new result }
+        ensures uncounted { self.new.tally ≡ self.old.tally }
     {
         let before = self.counts;
         let answer = requests::judge(&self.net, &self.capacities, &mut self.counts, request);
-        self.tally.count(Call::from(request), answer.verdict);
         if answer.verdict.is_granted() {
             self.opened.push(Entry { request, before });
         }
@@ -174,30 +163,31 @@ impl Engine {
     }
 
     /// One call on the machine.
+    #[tactic(auto, using(crate::proofs::States::counted))]
     pub fn perform(&mut self, call: Call) -> Answer
         ensures { Replies call self.old self.new result }
     {
-        match call {
+        let answer = match call {
             Call::Activate(context) => self.request(Request { on: true, context }),
             Call::Deactivate(context) => self.request(Request { on: false, context }),
-            Call::Undo => self.undo(),
-            Call::Settle => self.settle(),
-        }
+            Call::Undo => self.take_back(),
+            Call::Settle => self.close(),
+        };
+        self.tally.count(call, answer.verdict);
+        answer
     }
-}
 
-impl Clone for Engine {
-    ghost is_clone = { λ engine other. other ≡ engine };
+    /// Takes back the newest open request.
+    pub fn undo(&mut self) -> Answer
+        ensures { Replies Undo self.old self.new result }
+    {
+        self.perform(Call::Undo)
+    }
 
-    ghost is_infallible = { λ _. ⊤ };
-
-    fn clone(&self) -> Result<Self, AllocError> {
-        Ok(Engine {
-            net: self.net,
-            capacities: self.capacities,
-            counts: self.counts,
-            opened: self.opened.clone()?,
-            tally: self.tally,
-        })
+    /// Settles the open list.
+    pub fn settle(&mut self) -> Answer
+        ensures { Replies Settle self.old self.new result }
+    {
+        self.perform(Call::Settle)
     }
 }

@@ -1,8 +1,8 @@
-ghost use Rattle.std.specs.Prelude.{◌≡◌, ℕ, ◌<◌, ◌≤◌, ◌↔◌, List, [], ◌∷◌, length, take, IsTrue, IsNone, IfNone, IfSome, ⊤};
+//! The open list: the granted requests that can still be undone.
+ghost use Rattle.std.specs.Prelude.{◌≡◌, ◌<◌, ◌≤◌, ◌↔◌, List, [], ◌∷◌, length, take, IsTrue, IsNone, IfNone, IfSome};
 ghost use Rattle.engine.specs.Open.{slot};
 
 use model::Request;
-use std::alloc::AllocError;
 use std::marker::Model;
 
 /// How many requests can be open.
@@ -16,10 +16,10 @@ pub struct Entry {
 }
 
 /// The open requests, in a ring, so that none moves when one joins or leaves.
-#[derive(Debug, Drop)]
+#[derive(Clone, Debug, Drop)]
 pub struct OpenList {
     requests: [Request; 32],
-    // the undoable markings: the counts from before each request
+    // the undoable markings, the counts from before each request: an array of their own, in a given form, and no entry with its request
     markings: [[u8; 48]; 32],
     // the slot of the oldest, and how many are open
     first: usize,
@@ -28,7 +28,7 @@ pub struct OpenList {
 
 // Clauses see the entries, the newest first.
 impl Model for OpenList {
-    ghost use Rattle.std.specs.Prelude.{ℕ, ◌<◌, ◌≤◌, List};
+    ghost use Rattle.std.specs.Prelude.{◌<◌, ◌≤◌, List};
     ghost use Rattle.engine.specs.declared.open_list.Entry.{Entry};
 
     ghost Value = { List Entry };
@@ -72,8 +72,8 @@ impl OpenList {
         self.len == OPEN_LIMIT
     }
 
-    #[tactic(auto, using(crate::proofs::Rings::push_free, crate::proofs::Rings::push_full))]
     /// The entry joins the list. Where 32 were open, the oldest is no longer.
+    #[tactic(auto, using(crate::proofs::Rings::push_free, crate::proofs::Rings::push_full))]
     pub fn push(&mut self, entry: Entry)
         ensures { self.new ≡ take 32 (entry ∷ self.old) }
     {
@@ -111,20 +111,5 @@ impl OpenList {
         ensures { self.new ≡ [] }
     {
         self.len = 0;
-    }
-}
-
-impl Clone for OpenList {
-    ghost is_clone = { λ list other. other ≡ list };
-
-    ghost is_infallible = { λ _. ⊤ };
-
-    fn clone(&self) -> Result<Self, AllocError> {
-        Ok(OpenList {
-            requests: self.requests,
-            markings: self.markings,
-            first: self.first,
-            len: self.len,
-        })
     }
 }

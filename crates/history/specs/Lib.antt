@@ -1,5 +1,3 @@
 pub mod Chains
 pub mod Encoding
-pub mod Putting
 pub mod Reports
-pub mod Running

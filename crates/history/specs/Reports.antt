@@ -1,6 +1,6 @@
 -- What `run` writes for a list of calls in bytes: the answers, then the state after them.
 -- Assumes nothing.
-use Rattle.std.specs.Prelude.{ℕ, ◌||◌, cond, List, ◌++◌, map, ltb, length, drop}
+use Rattle.std.specs.Prelude.{ℕ, ◌≡◌, ◌<◌, ◌≤◌, ◌||◌, cond, List, ◌++◌, map, ltb, length, drop, Option, None, Some}
 use Rattle.model.specs.Sets.{concat_map}
 use Rattle.model.specs.Relations.{Net}
 use Rattle.model.specs.Machine.{State, Event, fresh, after, log}
@@ -37,3 +37,8 @@ ran img bs out =
     let r = report (loaded img) (calls_in bs) in
     cond (no_calls bs || ltb (length out) (length r)) (record { written = 0; output = out })
     (record { written = length r; output = r ++ drop (length r) out })
+
+-- the report stands at the output's start, and its length is the result; or there is no room for it, and nothing has changed
+pub record Reports (report out : List ℕ) (r : Option ℕ) (out' : List ℕ) : Type 0 where
+  pub short : length out < length report → (r ≡ None) × (out' ≡ out)
+  pub long : length report ≤ length out → (r ≡ Some (length report)) × (out' ≡ report ++ drop (length report) out)

@@ -1,4 +1,4 @@
-// Answers and totals as bytes, the low byte first.
+//! Answers and totals as bytes, the low byte first.
 ghost use Rattle.std.specs.Prelude.{◌≡◌};
 ghost use Rattle.model.specs.Image.{bytes};
 ghost use Rattle.history.specs.Encoding.{answer_bytes, tally_bytes};

@@ -1,6 +1,6 @@
-// Bytes written one behind the other.
+//! Bytes written one behind the other.
 ghost use Rattle.std.specs.Prelude.{◌≡◌, ◌+◌, ◌≤◌, length};
-ghost use Rattle.history.specs.Putting.{put};
+ghost use lib.Seq.{paste};
 
 /// A lent output, and how much of it has been written.
 #[derive(Debug, Drop)]
@@ -22,7 +22,7 @@ impl<'a> Writer<'a> {
     pub fn put(&mut self, bytes: &[u8])
         requires { self.old.written + length bytes.now ≤ length self.old.out.now }
         ensures same_output { self.new.out.ghost_name ≡ self.old.out.ghost_name }
-        ensures put { self.new.out.now ≡ put self.old.out.now self.old.written bytes.now }
+        ensures put { self.new.out.now ≡ paste self.old.out.now self.old.written bytes.now (length bytes.now) }
         ensures written { self.new.written ≡ self.old.written + length bytes.now }
     {
         let end = self.written + bytes.len();

@@ -1,23 +1,23 @@
 -- Records one behind the other, written and compared.
 -- Assumes nothing.
-use Rattle.std.proofs.Common.{◌≡◌, ℕ, ◌+◌, ◌-◌, ◌*◌, ◌≤◌, Bool, ◌&&◌, List, [], ◌∷◌, ◌++◌, length, map, take, drop, zip, refl, sym, ap, ap₂, ◌∙◌, append_assoc, append-nil, arith, length-append, length-drop, length-take-le, take-append-drop, take_all}
-use Rattle.std.specs.List.{list_all}
+use Rattle.std.proofs.Common.{◌≡◌, ℕ, ◌+◌, ◌-◌, ◌*◌, ◌≤◌, Bool, true, ◌&&◌, List, [], ◌∷◌, ◌++◌, length, map, take, drop, refl, sym, ap, ap₂, ◌∙◌, append_assoc, append-nil, arith, length-append, length-drop, length-take-le, take-append-drop, take_all}
 use Rattle.std.proofs.lemmas.Slice.{take-put_mid}
 use borrow.Rule.Slice.PartMut.{put_mid}
-use Rattle.std.specs.Simd.{first_chunks}
-use Rattle.model.specs.Sets.{concat_map, equal_lists}
+use Rattle.model.specs.Sets.{Each, nil, cons, concat_map, equal_lists}
 use Rattle.model.specs.Relations.{Net}
 use Rattle.model.specs.Transitions.{Transition, transitions}
 use Rattle.model.specs.Image.{edition_1, record_bytes, records, set_bytes}
 use Rattle.transitions.specs.declared.Arcs.{Arcs}
+use Rattle.model.proofs.Walks.{TwoPriorities, two_priorities}
 use Rattle.transitions.specs.Arcs.{arcs_of}
+use Rattle.transitions.proofs.Words.{holds}
 use Rattle.image.specs.Records.{record_of}
 use Rattle.image.proofs.Words.{word_bytes, equal_append}
 
-record_is : (t : Transition) → record_of (arcs_of t) ≡ record_bytes 6 t
+record_is : (t : Transition) → TwoPriorities t → record_of (arcs_of t) ≡ record_bytes 6 t
 unfolding record_bytes set_bytes
-record_is t =
-    λ i. t.priority
+record_is t two =
+    λ i. (holds (arcs_of t) t two refl).priority i
     ∷ (word_bytes t.takes_context i
     ++ (word_bytes t.takes_pr i
     ++ (word_bytes t.takes_not i
@@ -25,36 +25,40 @@ record_is t =
 
 pub records_are : (net : Net) → concat_map record_of (map arcs_of (transitions net)) ≡ records edition_1 net
 unfolding records
-records_are net = go (transitions net)
+records_are net = go (two_priorities net)
   where
-    go : (ts : List Transition) → concat_map record_of (map arcs_of ts) ≡ concat_map (record_bytes 6) ts
-    go [] = refl
-    go (t ∷ ts) = ap₂ (λ (x y : List ℕ). x ++ y) (record_is t) (go ts)
+    go : {ts : List Transition} → Each TwoPriorities ts → concat_map record_of (map arcs_of ts) ≡ concat_map (record_bytes 6) ts
+    go nil = refl
+    go (cons {x = t} two ts) = ap₂ (λ (x y : List ℕ). x ++ y) (record_is t two) (go ts)
 
 pub length_record_of : (a : Arcs) → length (record_of a) ≡ 49
 length_record_of a = refl
 
--- pieces of one length are compared one by one
-pub pieces_same : (arcs : List Arcs) (bs : List ℕ) → length bs ≡ 49 * length arcs
-    → list_all (λ p. equal_lists p.1 (record_of p.0)) (zip arcs (first_chunks 49 (length arcs) bs)) ≡ equal_lists bs (concat_map record_of arcs)
-pieces_same [] [] e = refl
-pieces_same [] (b ∷ bs) e = absurd (omega arith)
-pieces_same (a ∷ arcs) bs e =
-    let l = length-take-le 49 bs (omega arith) in
-    let d = length-drop 49 bs in
-    ap (λ (x : Bool). equal_lists (take 49 bs) (record_of a) && x) (pieces_same arcs (drop 49 bs) (omega arith))
-    ∙ sym (equal_append (take 49 bs) (drop 49 bs) (record_of a) (concat_map record_of arcs) l)
-    ∙ ap (λ (z : List ℕ). equal_lists z (record_of a ++ concat_map record_of arcs)) (take-append-drop 49 bs)
+-- one record is compared, and those that are still to come
+pub same_more : (left : List ℕ) (a : Arcs) (s t : List Arcs) {all : Bool} → s ≡ a ∷ t → length left ≡ 49 * length s → (b : Bool) → b ≡ equal_lists (take 49 left) (record_of a)
+    → equal_lists left (concat_map record_of s) ≡ all → (b && equal_lists (drop 49 left) (concat_map record_of t)) ≡ all
+same_more left a s t e n b b_is inv =
+    let l = length-take-le 49 left (omega (arith, ap length e)) in
+    ap (λ (x : Bool). x && equal_lists (drop 49 left) (concat_map record_of t)) b_is
+    ∙ sym (equal_append (take 49 left) (drop 49 left) (record_of a) (concat_map record_of t) l)
+    ∙ ap₂ equal_lists (take-append-drop 49 left) (ap (concat_map record_of) (sym e))
+    ∙ inv
 
-pub length_written : (out new : List ℕ) (at : ℕ) → at + 49 ≤ length out → length new ≡ 49 → length (put_mid at (at + 49 - at) out new) ≡ length out
-length_written out new at h n =
-    let behind : List ℕ = drop (at + 49 - at) (drop at out) in
+-- and at the end there is nothing left
+pub same_all : (left : List ℕ) (s : List Arcs) → s ≡ [] → length left ≡ 49 * length s → true ≡ equal_lists left (concat_map record_of s)
+same_all [] s e n = ap (λ (z : List Arcs). equal_lists [] (concat_map record_of z)) (sym e)
+same_all (b ∷ bs) s e n = absurd (omega (arith, ap length e))
+
+-- a part is written over as many elements
+pub length_written : (out new : List ℕ) (at end : ℕ) → at + length new ≡ end → end ≤ length out → length (put_mid at (end - at) out new) ≡ length out
+length_written out new at end n h =
+    let behind : List ℕ = drop (end - at) (drop at out) in
     omega (
       arith,
       length-append (take at out) (new ++ behind),
       length-append new behind,
       length-take-le at out (omega arith),
-      length-drop (at + 49 - at) (drop at out),
+      length-drop (end - at) (drop at out),
       length-drop at out,
     )
 

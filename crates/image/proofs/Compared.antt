@@ -1,25 +1,22 @@
 -- A record compared set by set, each within a whole word.
 -- Assumes nothing.
-use Rattle.std.proofs.Common.{◌≡◌, ℕ, ◌+◌, ◌*◌, ◌/◌, ◌%◌, ◌^◌, ◌<◌, ◌≤◌, Bool, true, false, refl, ◌&&◌, List, [], ◌∷◌, ◌++◌, eqb, length, get_or, take, drop, sym, ap, ap₂, ◌∙◌, append-nil, arith, length-drop, length-take-le, take-add, take-take, take_all, drop-drop, take-append-drop}
-use Rattle.std.specs.Int.{w64, from_le_bytes}
+use Rattle.std.proofs.Common.{◌≡◌, ℕ, ◌+◌, ◌*◌, ◌/◌, ◌%◌, ◌^◌, ◌<◌, ◌≤◌, Bool, ◌&&◌, List, [], ◌∷◌, ◌++◌, eqb, length, get_or, take, drop, sym, ap, ap₂, ◌∙◌, append-nil, arith, length-drop, length-take-le, take-add, take-take, take_all, drop-drop, take-append-drop}
+use Rattle.std.proofs.Math.Bool.{and-true}
+use Rattle.std.specs.Int.{w64, to_le_bytes}
 use Rattle.std.proofs.lemmas.Grind.{flat_map-append}
 use Rattle.std.proofs.lemmas.List.{take_more}
 use Rattle.model.specs.Sets.{concat_map, equal_lists}
 use Rattle.model.specs.Image.{bytes}
 use Rattle.model.proofs.Fields.{length_bytes}
 use Rattle.model.proofs.Sizes.{length_concat_map}
-use Rattle.image.proofs.Words.{low_same, high_same, equal_append, bytes_drop, bytes_take}
+use Rattle.image.proofs.Words.{low_same, high_same, equal_append}
 
 -- the priority alone
 pub none_compared : (sec : List ℕ) (p : ℕ) → length sec ≡ 49 → eqb (get_or sec 0 0) p ≡ equal_lists (take 1 sec) (p ∷ [])
 none_compared [] p h = absurd (omega arith)
-none_compared (x ∷ sec) p h = sym (and_true (eqb x p))
-  where
-    and_true : (b : Bool) → (b && true) ≡ b
-    and_true true = refl
-    and_true false = refl
+none_compared (x ∷ sec) p h = sym (and-true (eqb x p))
 
-module _ (sec sets : List ℕ) (p last i : ℕ) (long : length sec ≡ 49) (known : (j : ℕ) → get_or sec j 0 < 256) (seven : length sets ≡ 7)
+module _ (sec sets : List ℕ) (p last i : ℕ) (long : length sec ≡ 49) (seven : length sets ≡ 7)
     (same : Bool) (front : same ≡ equal_lists (take (6 * i + 1) sec) (p ∷ concat_map (bytes 6) (take i sets))) where
   abbrev at : ℕ
   at = 6 * i + 1
@@ -33,30 +30,27 @@ module _ (sec sets : List ℕ) (p last i : ℕ) (long : length sec ≡ 49) (know
       length-take-le at sec (omega arith) ∙ omega (arith, n, length-take-le i sets (omega (arith, seven)))
 
   -- one set more is compared
-  pub set_compared : i < 7 → {b : Bool} → b ≡ eqb (from_le_bytes w64 (take 8 (drop at sec)) % 281474976710656) (w % 281474976710656)
+  pub set_compared : i < 7 → (x : ℕ) {b : Bool} → to_le_bytes w64 x ≡ take 8 (drop at sec) → b ≡ eqb (x % 281474976710656) (w % 281474976710656)
       → (same && b) ≡ equal_lists (take (6 * (i + 1) + 1) sec) (p ∷ concat_map (bytes 6) (take (i + 1) sets))
-  set_compared inside {b} b_is =
-      let n = length-take-le 8 (drop at sec) (omega (arith, length-drop at sec)) in
+  set_compared inside x {b} x_is b_is =
       let e : at + 6 ≡ 6 * (i + 1) + 1 = omega arith in
       let here : b ≡ equal_lists (take 6 (drop at sec)) (bytes 6 w ++ []) =
       b_is
-      ∙ low_same (take 8 (drop at sec)) w n (bytes_take 8 (drop at sec) (bytes_drop at sec known))
-      ∙ ap₂ equal_lists (take-take 6 8 (drop at sec) (omega arith)) (sym (append-nil (bytes 6 w))) in
+      ∙ low_same x w
+      ∙ ap₂ equal_lists (ap (take 6) x_is ∙ take-take 6 8 (drop at sec) (omega arith)) (sym (append-nil (bytes 6 w))) in
       ap₂ (λ (x y : Bool). x && y) front here
       ∙ sym (equal_append (take at sec) (take 6 (drop at sec)) (p ∷ concat_map (bytes 6) (take i sets)) (bytes 6 w ++ []) (length_front (omega arith)))
       ∙ ap₂ equal_lists (sym (take-add at 6 sec) ∙ ap (λ (m : ℕ). take m sec) e)
       (ap (λ (x : List ℕ). p ∷ x) (sym (flat_map-append (bytes 6) (take i sets) (w ∷ [])) ∙ ap (concat_map (bytes 6)) (sym (take_more sets i 0 (omega (arith, seven))))))
 
   -- and the last one
-  pub last_compared : i ≡ 7 → {all : List ℕ} → sets ++ (last ∷ []) ≡ all → from_le_bytes w64 (take 8 (drop 41 sec)) < 2 ^ 64
-      → (same && eqb (from_le_bytes w64 (take 8 (drop 41 sec)) / 65536) (last % 281474976710656)) ≡ equal_lists sec (p ∷ concat_map (bytes 6) all)
-  last_compared i_is {all} all_is fits =
-      let ys : List ℕ = take 8 (drop 41 sec) in
-      let n = length-take-le 8 (drop 41 sec) (omega (arith, length-drop 41 sec)) in
+  pub last_compared : i ≡ 7 → {all : List ℕ} → sets ++ (last ∷ []) ≡ all → (x : ℕ) → to_le_bytes w64 x ≡ take 8 (drop 41 sec) → x < 2 ^ 64
+      → (same && eqb (x / 65536) (last % 281474976710656)) ≡ equal_lists sec (p ∷ concat_map (bytes 6) all)
+  last_compared i_is {all} all_is x x_is fits =
       let a : at ≡ 43 = omega (arith, i_is) in
-      let end : drop 2 ys ≡ drop at sec = ap (drop 2) (take_all 8 (drop 41 sec) (omega (arith, length-drop 41 sec))) ∙ drop-drop 2 41 sec ∙ ap (λ (k : ℕ). drop k sec) (sym a) in
+      let end : drop 2 (to_le_bytes w64 x) ≡ drop at sec = ap (drop 2) (x_is ∙ take_all 8 (drop 41 sec) (omega (arith, length-drop 41 sec))) ∙ drop-drop 2 41 sec ∙ ap (λ (k : ℕ). drop k sec) (sym a) in
       ap₂ (λ (x y : Bool). x && y) front
-      (high_same ys last n (bytes_take 8 (drop 41 sec) (bytes_drop 41 sec known)) fits ∙ ap₂ equal_lists end (sym (append-nil (bytes 6 last))))
+      (high_same x last fits ∙ ap₂ equal_lists end (sym (append-nil (bytes 6 last))))
       ∙ sym (equal_append (take at sec) (drop at sec) (p ∷ concat_map (bytes 6) (take i sets)) (bytes 6 last ++ []) (length_front (omega (arith, i_is))))
       ∙ ap₂ equal_lists (take-append-drop at sec)
       (ap (λ (l : List ℕ). p ∷ (concat_map (bytes 6) l ++ (bytes 6 last ++ []))) (take_all i sets (omega (arith, seven, i_is)))

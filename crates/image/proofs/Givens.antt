@@ -4,12 +4,12 @@ use Rattle.std.proofs.Common.{◌≡◌, ℕ, ◌+◌, ◌*◌, ◌/◌, ◌%◌
 use borrow.Author.Tests.{not-false}
 use Rattle.model.specs.Sets.{Each, cons, IsByte, concat_map}
 use Rattle.model.specs.Refusals.{first_refusal}
-use Rattle.model.specs.Relations.{Net}
+use Rattle.model.specs.Relations.{Net, size, relation_count}
 use Rattle.model.specs.declared.Relation.{Relation}
 use Rattle.relations.specs.Reading.{relations_of}
 use lib.ListN.{length-map}
 use Rattle.image.specs.Trailers.{trailer_for}
-use Rattle.model.specs.Image.{edition_1, Trailer, relation_bytes, relation_from, records, trailer, trailer_bytes, image, given_net, bad_sizes}
+use Rattle.model.specs.Image.{edition_1, Trailer, relation_bytes, relation_from, records, transition_count, trailer, trailer_bytes, image, given_net, bad_sizes}
 use Rattle.model.specs.Claims.{Passes}
 use Rattle.model.specs.declared.Verdict.TheVariants.{Granted}
 use Rattle.model.proofs.Tests.{or_false_right}
@@ -34,16 +34,16 @@ module _ (caps bs : List ℕ) where
         let r = length bs / 3 in
         relations_written edition_1 r bs (omega arith) all ∙ take_all (3 * r) bs (omega arith)
 
-  -- the parts of their image
-  pub parts_sized : length bs % 3 ≡ 0 → (e : Trailer) → e ≡ trailer_for (given_net edition_1 caps bs)
-      → e.n + e.to_relations + 8 ≡ length caps + length bs + e.to_records + 8
-  unfolding trailer
-  parts_sized whole e e_is =
-      let q = length_read edition_1 (length bs / 3) bs in
-      let n = ap (λ (x : Trailer). x.n) e_is in
-      let r = ap (λ (x : Trailer). x.to_relations) e_is in
-      let t = ap (λ (x : Trailer). x.to_records) e_is in
-      omega arith
+    -- the parts of their image
+    pub parts_sized : (net : Net) → net ≡ given_net edition_1 caps bs → (e : Trailer) → e ≡ trailer_for net
+        → e.n + e.to_relations + 8 ≡ size net + length bs + 49 * transition_count net + 8
+    unfolding trailer
+    parts_sized net net_is e e_is =
+        let q = length_read edition_1 (length bs / 3) bs in
+        let k = ap relation_count net_is in
+        let n = ap (λ (x : Trailer). x.n) e_is in
+        let r = ap (λ (x : Trailer). x.to_relations) e_is in
+        omega arith
 
 -- the size of a net's image, by its trailer
 pub image_sized : (net : Net) (e : Trailer) → e ≡ trailer_for net → length (image edition_1 net) ≡ e.n + e.to_relations + 8

@@ -1,16 +1,16 @@
 -- The parts of an image by what its trailer says.
 -- Assumes nothing.
-use Rattle.std.proofs.Common.{◌≡◌, ℕ, zero, suc, ◌+◌, ◌-◌, ◌*◌, ◌/◌, false, not, List, [], ◌∷◌, ◌++◌, eqb, length, get_or, ◌<◌, take, drop, refl, sym, ap, ap₂, ◌∙◌, arith, length-drop, length-take-le, take-add, take-take, eqb-true}
-use borrow.Author.Tests.{not-false}
+use Rattle.std.proofs.Common.{◌≡◌, ℕ, zero, suc, ◌+◌, ◌-◌, ◌*◌, ◌/◌, false, not, List, [], ◌∷◌, ◌++◌, eqb, length, get_or, ◌<◌, take, drop, refl, sym, ap, ap₂, ◌∙◌, arith, length-drop, length-take-le, take-add, take-take}
 use Rattle.std.specs.Simd.{first_chunks}
 use Rattle.std.proofs.lemmas.Slice.{between_is}
 use Rattle.relations.specs.Reading.{relations_of}
 use Rattle.relations.proofs.Reading.{relations_read}
 use Rattle.model.proofs.Tests.{each_drop}
 use Rattle.model.specs.Sets.{Each, nil, cons, IsByte, concat_map}
+use Rattle.model.specs.Relations.{size, relation_count}
 use Rattle.model.specs.Image.{Trailer, edition_1, relation_bytes, read_relations, bad_sizes, bad_layout, net_of, records_of, given_net}
 use Rattle.model.proofs.Tests.{or_four}
-use Rattle.model.proofs.Accepts.{relations_written}
+use Rattle.model.proofs.Accepts.{agreed, relations_written, length_read}
 use Rattle.relations.proofs.Lists.{few_contexts, few_relations}
 use Rattle.image.specs.Trailers.{LaidOut}
 
@@ -32,9 +32,6 @@ relations_part : (k : ℕ) (bs : List ℕ) → read_relations edition_1 k (take 
 relations_part k bs = relations_read k (take (3 * k) bs) ∙ ap relations_of (chunks_part k bs) ∙ sym (relations_read k bs)
 
 module _ (img : List ℕ) (e : Trailer) where
-  agreed : (x y : ℕ) → not (eqb x y) ≡ false → x ≡ y
-  agreed x y h = eqb-true x y (not-false (eqb x y) h)
-
   pub laid_out : bad_sizes edition_1 e.n e.r ≡ false → bad_layout edition_1 img e ≡ false → LaidOut img e
   unfolding bad_layout
   laid_out sizes layout =
@@ -76,14 +73,17 @@ module _ (img : List ℕ) (e : Trailer) where
           rels = (ap₂ (λ (r m : ℕ). read_relations edition_1 r (take m (drop first img))) n k ∙ relations_part e.r (drop first img)) i;
         }
 
-    pub records_are : take (end - second) (drop second img) ≡ records_of edition_1 img e
+    pub records_are : take (second + e.to_records - second) (drop second img) ≡ records_of edition_1 img e
     unfolding records_of
-    records_are = let k : end - second ≡ 49 * e.t = omega (arith, laid.to_records, laid.whole) in ap (λ (k : ℕ). take k (drop second img)) k
+    records_are = let k : second + e.to_records - second ≡ 49 * e.t = omega (arith, laid.to_records, laid.whole) in ap (λ (k : ℕ). take k (drop second img)) k
 
-    pub length_records : length (take (end - second) (drop second img)) ≡ 49 * e.t
-    length_records =
-        length-take-le (end - second) (drop second img) (omega (arith, length-drop second img, laid.to_records, laid.whole))
-        ∙ omega (arith, laid.to_records, laid.whole)
+    -- how many contexts and relations there are
+    pub sizes_are : e.n ∷ e.r ∷ [] ≡ size (net_of edition_1 img e) ∷ relation_count (net_of edition_1 img e) ∷ []
+    unfolding net_of
+    sizes_are =
+        let n = length-take-le e.n img (omega (arith, laid.whole)) in
+        let r = length_read edition_1 e.r (drop first img) in
+        λ i. sym n i ∷ sym r i ∷ []
 
     -- the capacities and the relations, byte for byte
     pub list_found : take second img ≡ take (e.n + 3 * e.r) img

@@ -41,12 +41,11 @@ module _ (img out : List ℕ) where
     whole_listed h = ap₂ listed_by g (le-leb (length list) (length out) h)
 
 -- the part of an image that is listed, and how long the list is
-pub part_found : (img : List ℕ) (laid : LaidImage) {net : Net} {part : List ℕ} → ((i : ℕ) → get_or img i 0 < 256) → laid.bytes.now ≡ img → net ≡ net_in laid → part ≡ list_in laid
-    → part ≡ net.caps ++ concat_map (relation_bytes edition_1) net.rels
-part_found img laid all bytes_are net_is part_is =
+pub part_found : (img : List ℕ) (laid : LaidImage) {part : List ℕ} → ((i : ℕ) → get_or img i 0 < 256) → laid.bytes.now ≡ img → part ≡ list_in laid
+    → part ≡ (net_in laid).caps ++ concat_map (relation_bytes edition_1) (net_in laid).rels
+part_found img laid all bytes_are part_is =
     part_is
     ∙ list_is laid.bytes.now (trailer_as laid.trailer) laid.laid (subst (Each IsByte) (sym bytes_are) (bytes_each img all))
-    ∙ ap (λ (n : Net). n.caps ++ concat_map (relation_bytes edition_1) n.rels) (sym net_is)
 
 pub length_listing : (net : Net) {part : List ℕ} → part ≡ net.caps ++ concat_map (relation_bytes edition_1) net.rels → length (listing net) ≡ length part + 2
 unfolding listing

@@ -85,14 +85,14 @@ module _ (img : List ℕ) where
           (ap₂ (λ (x : Bool) (k : ℕ). x || not (eqb k 0)) passed whole)
           ∙ ap (λ (n : Net). first_refusal (net_checks n)) same
 
-      pub list_refused : (k : Refusal) → first_refusal (given_checks caps bs) ≡ Refused k → Loads (Refused k)
+      list_refused : (k : Refusal) → first_refusal (given_checks caps bs) ≡ Refused k → Loads (Refused k)
       list_refused k h =
           by_verdict (Refused k)
           (granted_before (layout_checks img) (net_checks net ++ records_check) layout
           ∙ refused_before (net_checks net) records_check k (sym list_checked ∙ h))
 
       -- and the test of the records decides
-      pub by_records : first_refusal (given_checks caps bs) ≡ Granted → (b : Bool) → b ≡ not (other_records edition_1 img e)
+      by_records : first_refusal (given_checks caps bs) ≡ Granted → (b : Bool) → b ≡ not (other_records edition_1 img e)
           → Loads (cond b Granted (Refused WrongRecords))
       by_records h b e_is =
           by_verdict (cond b Granted (Refused WrongRecords))
@@ -100,17 +100,22 @@ module _ (img : List ℕ) where
           ∙ granted_before (net_checks net) records_check (sym list_checked ∙ h)
           ∙ by_test (other_records edition_1 img e) b e_is)
 
-  -- what an image with these bytes and this trailer has
-  module _ (laid : LaidImage) (bytes_are : laid.bytes.now ≡ img) (trailer_is : trailer_as laid.trailer ≡ e) where
-    net_found : net_in laid ≡ net
-    net_found = λ i. net_of edition_1 (bytes_are i) (trailer_is i)
+  -- an image with these bytes and this trailer
+  module _ (laid_image : LaidImage) (found : (laid_image.bytes.now ≡ img) × (trailer_as laid_image.trailer ≡ e)) where
+    pub part_found : records_in laid_image ≡ records_of edition_1 img e
+    part_found = λ i. records_of edition_1 (found.0 i) (found.1 i)
 
-    pub same_found : {caps : List ℕ} (bs : List ℕ) → caps ≡ (net_in laid).caps → given_net edition_1 (net_in laid).caps bs ≡ net_in laid
-        → given_net edition_1 caps bs ≡ net
-    same_found bs p q = ap (λ (cs : List ℕ). given_net edition_1 cs bs) p ∙ q ∙ net_found
+    -- and the capacities and relations that are read in it
+    module _ (bs : List ℕ) {caps : List ℕ} (caps_are : caps ≡ (net_in laid_image).caps)
+        (net_is : given_net edition_1 (net_in laid_image).caps bs ≡ net_in laid_image) where
+      pub same_found : given_net edition_1 caps bs ≡ net
+      same_found = ap (λ (cs : List ℕ). given_net edition_1 cs bs) caps_are ∙ net_is ∙ (λ i. net_of edition_1 (found.0 i) (found.1 i))
 
-    pub test_found : {b : Bool} → b ≡ not (other_records edition_1 laid.bytes.now (trailer_as laid.trailer)) → b ≡ not (other_records edition_1 img e)
-    test_found h = h ∙ (λ i. not (other_records edition_1 (bytes_are i) (trailer_is i)))
+      module _ (whole : length bs % 3 ≡ 0) (layout : first_refusal (layout_checks img) ≡ Granted) where
+        pub list_found_refused : (k : Refusal) → first_refusal (given_checks caps bs) ≡ Refused k → Loads (Refused k)
+        list_found_refused = list_refused layout caps bs same_found whole
 
-    pub part_found : records_in laid ≡ records_of edition_1 img e
-    part_found = λ i. records_of edition_1 (bytes_are i) (trailer_is i)
+        pub records_tested : first_refusal (given_checks caps bs) ≡ Granted
+            → (b : Bool) → b ≡ not (other_records edition_1 laid_image.bytes.now (trailer_as laid_image.trailer)) → Loads (cond b Granted (Refused WrongRecords))
+        records_tested h b b_is =
+            by_records layout caps bs same_found whole h b (b_is ∙ (λ i. not (other_records edition_1 (found.0 i) (found.1 i))))

@@ -1,6 +1,6 @@
 -- Sets written one behind the other, each as a whole word, whose last two bytes the next one covers.
 -- Assumes nothing.
-use Rattle.std.proofs.Common.{◌≡◌, ℕ, ◌+◌, ◌-◌, ◌*◌, ◌<◌, ◌≤◌, List, [], ◌∷◌, ◌++◌, length, get_or, set, take, drop, refl, sym, ap, ap₂, ◌∙◌, append-nil, arith, length-append, length-drop, length-take-le, take-add, take_at, drop_at, take_all, drop_of_length-le}
+use Rattle.std.proofs.Common.{◌≡◌, ℕ, ◌+◌, ◌-◌, ◌*◌, ◌<◌, ◌≤◌, List, [], ◌∷◌, ◌++◌, length, get_or, set, take, drop, refl, sym, ap, ap₂, ◌∙◌, append-nil, arith, length-drop, length-take-le, take-add, take_at, drop_at, take_all, drop_of_length-le}
 use Rattle.std.specs.Int.{w64, to_le_bytes}
 use Rattle.std.proofs.lemmas.Grind.{flat_map-append}
 use Rattle.std.proofs.lemmas.List.{take_more}
@@ -32,19 +32,6 @@ set_more out ys sets p i long room inside ys_are front =
     ∙ ap₂ (λ (x y : List ℕ). x ++ take 6 (y ++ rest)) front (ys_are ∙ le_bytes_are w)
     ∙ ap (λ (x : List ℕ). p ∷ (concat_map (bytes 6) (take i sets) ++ x)) (sym (append-nil (bytes 6 w)))
     ∙ ap (λ (x : List ℕ). p ∷ x) (sym (flat_map-append (bytes 6) (take i sets) (w ∷ [])) ∙ ap (concat_map (bytes 6)) (sym (take_more sets i 0 inside)))
-
-pub length_more : (out ys : List ℕ) (i : ℕ) → length out ≡ 49 → 6 * i + 9 ≤ 49 → length ys ≡ 8 → length (put_mid (6 * i + 1) (6 * i + 9 - (6 * i + 1)) out ys) ≡ 49
-length_more out ys i long room eight =
-    let at : ℕ = 6 * i + 1 in
-    let k : ℕ = 6 * i + 9 - (6 * i + 1) in
-    omega (
-      arith,
-      length-append (take at out) (ys ++ drop k (drop at out)),
-      length-append ys (drop k (drop at out)),
-      length-take-le at out (omega arith),
-      length-drop k (drop at out),
-      length-drop at out,
-    )
 
 -- and the last one, in six bytes
 pub set_last : (out ys sets all : List ℕ) (p last i : ℕ) → length out ≡ 49 → length sets ≡ 7 → i ≡ 7 → ys ≡ take 6 (to_le_bytes w64 last)

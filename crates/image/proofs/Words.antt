@@ -1,8 +1,9 @@
 -- The bytes of words: cut, joined, read back.
 -- Assumes nothing.
-use Rattle.std.proofs.Common.{◌≡◌, ℕ, zero, suc, ◌+◌, ◌*◌, ◌/◌, ◌%◌, ◌^◌, ◌<◌, Bool, ◌&&◌, List, [], ◌∷◌, ◌++◌, map, length, get_or, take, drop, true, false, eqb, refl, sym, ap, ap₂, ◌∙◌, append-nil, suc-add, zero-add, add-zero, zero-mul, mul_assoc, arith, pow-add, eqb-true, eq-eqb}
-use Rattle.std.specs.Int.{w64, to_le_bytes, from_le_bytes}
-use Rattle.std.proofs.lemmas.Nat.{mod-pow-add, le_bytes_8}
+use Rattle.std.proofs.Common.{◌≡◌, ℕ, zero, suc, ◌+◌, ◌*◌, ◌/◌, ◌%◌, ◌^◌, ◌<◌, Bool, ◌&&◌, List, [], ◌∷◌, ◌++◌, map, length, take, drop, eqb, refl, sym, ap, ap₂, ◌∙◌, append-nil, suc-add, zero-add, add-zero, zero-mul, mul_assoc, arith, pow-add, eqb-true, eq-eqb}
+use Rattle.std.proofs.Math.Bool.{and_assoc}
+use Rattle.std.specs.Int.{w64, to_le_bytes}
+use Rattle.std.proofs.lemmas.Nat.{mod-pow-add}
 use Rattle.model.specs.Sets.{Set, from, number, range, equal_lists}
 use Rattle.model.specs.Image.{bytes, from_bytes, set_bytes}
 use Rattle.model.proofs.Masks.{number_below, number_cong}
@@ -73,25 +74,15 @@ six_same x y =
         sym (from_to_bytes 6 (z % 281474976710656) below) ∙ ap from_bytes (bytes_low 6 z)
 
 -- the first six bytes of a word, and the last six
-module _ (ys : List ℕ) (w : ℕ) (eight : length ys ≡ 8) (known : (i : ℕ) → get_or ys i 0 < 256) where
-  abbrev word_is : bytes 8 (from_le_bytes w64 ys) ≡ ys
-  word_is = sym (le_bytes_are (from_le_bytes w64 ys)) ∙ le_bytes_8 ys (from_le_bytes w64 ys) eight known refl
+pub low_same : (x w : ℕ) → eqb (x % 281474976710656) (w % 281474976710656) ≡ equal_lists (take 6 (to_le_bytes w64 x)) (bytes 6 w)
+low_same x w = six_same x w ∙ ap (λ (l : List ℕ). equal_lists (take 6 l) (bytes 6 w)) (sym (le_bytes_are x))
 
-  pub low_same : eqb (from_le_bytes w64 ys % 281474976710656) (w % 281474976710656) ≡ equal_lists (take 6 ys) (bytes 6 w)
-  low_same = six_same (from_le_bytes w64 ys) w ∙ ap (λ (l : List ℕ). equal_lists (take 6 l) (bytes 6 w)) word_is
-
-  pub high_same : from_le_bytes w64 ys < 2 ^ 64 → eqb (from_le_bytes w64 ys / 65536) (w % 281474976710656) ≡ equal_lists (drop 2 ys) (bytes 6 w)
-  high_same fits =
-      ap (λ (m : ℕ). eqb m (w % 281474976710656)) (high (from_le_bytes w64 ys) fits)
-      ∙ six_same (from_le_bytes w64 ys / 256 / 256) w
-      ∙ ap (λ (l : List ℕ). equal_lists (drop 2 l) (bytes 6 w)) word_is
-    where
-      high : (m : ℕ) → m < 2 ^ 64 → m / 65536 ≡ m / 256 / 256 % 281474976710656
-      high m h = omega arith
-
-and_assoc : (a b c : Bool) → (a && b && c) ≡ (a && (b && c))
-and_assoc true b c = refl
-and_assoc false b c = refl
+pub high_same : (x w : ℕ) → x < 2 ^ 64 → eqb (x / 65536) (w % 281474976710656) ≡ equal_lists (drop 2 (to_le_bytes w64 x)) (bytes 6 w)
+high_same x w fits =
+    let high : x / 65536 ≡ x / 256 / 256 % 281474976710656 = omega arith in
+    ap (λ (m : ℕ). eqb m (w % 281474976710656)) high
+    ∙ six_same (x / 256 / 256) w
+    ∙ ap (λ (l : List ℕ). equal_lists (drop 2 l) (bytes 6 w)) (sym (le_bytes_are x))
 
 -- lists in two parts, the first parts of one length
 pub equal_append : (a b c d : List ℕ) → length a ≡ length c → equal_lists (a ++ b) (c ++ d) ≡ (equal_lists a c && equal_lists b d)
@@ -100,17 +91,6 @@ equal_append [] b (y ∷ c) d e = absurd (omega arith)
 equal_append (x ∷ a) b [] d e = absurd (omega arith)
 equal_append (x ∷ a) b (y ∷ c) d e =
     ap (λ (t : Bool). eqb x y && t) (equal_append a b c d (omega arith)) ∙ sym (and_assoc (eqb x y) (equal_lists a c) (equal_lists b d))
-
-pub bytes_drop : (k : ℕ) (bs : List ℕ) → ((i : ℕ) → get_or bs i 0 < 256) → (i : ℕ) → get_or (drop k bs) i 0 < 256
-bytes_drop zero bs h i = h i
-bytes_drop (suc k) [] h i = h i
-bytes_drop (suc k) (b ∷ bs) h i = bytes_drop k bs (λ j. h (suc j)) i
-
-pub bytes_take : (k : ℕ) (bs : List ℕ) → ((i : ℕ) → get_or bs i 0 < 256) → (i : ℕ) → get_or (take k bs) i 0 < 256
-bytes_take zero bs h i = omega arith
-bytes_take (suc k) [] h i = h i
-bytes_take (suc k) (b ∷ bs) h zero = h 0
-bytes_take (suc k) (b ∷ bs) h (suc i) = bytes_take k bs (λ j. h (suc j)) i
 
 -- the bytes of a word are those of the set that it holds
 set_bytes_from : (k w j : ℕ) (f : Set) → bytes k (number (8 * k + w) (from (8 * j) f)) ≡ map (λ i. number 8 (from (8 * i) f)) (range j k)

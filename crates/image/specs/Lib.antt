@@ -1,5 +1,4 @@
 pub mod Trailers
 pub mod Images
 pub mod Records
-pub mod Composing
 pub mod Listing

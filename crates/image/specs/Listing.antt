@@ -1,11 +1,10 @@
 -- The list that an accepted image stands for, as bytes: what `list` writes.
 -- Assumes nothing.
-use Rattle.std.specs.Prelude.{ℕ, ◌&&◌, cond, List, ◌∷◌, ◌++◌, Option, Some, None, Result, Ok, Err, leb, length, drop}
+use Rattle.std.specs.Prelude.{ℕ, ◌&&◌, cond, List, ◌∷◌, ◌++◌, leb, length, drop}
 use Rattle.model.specs.Sets.{concat_map}
 use Rattle.model.specs.Refusals.{is_granted}
 use Rattle.model.specs.Relations.{Net, size, relation_count}
 use Rattle.model.specs.Image.{edition_1, relation_bytes, load}
-use Rattle.model.specs.declared.Refusal.{Refusal}
 use Rattle.model.specs.declared.Verdict.{Verdict}
 
 -- a net's list in bytes: n and r, then the capacities, then the relations
@@ -25,9 +24,3 @@ listed img out =
     let l = listing m.net in
     let whole = is_granted m.verdict && leb (length l) (length out) in
     record { verdict = m.verdict; written = cond whole (length l) 0; output = cond whole (l ++ drop (length l) out) out }
-
--- the bytes that an answer says are written: none where the image is refused or there is no room
-abbrev pub written_of : Result (Option ℕ) Refusal → ℕ
-written_of (Ok (Some k)) = k
-written_of (Ok None) = 0
-written_of (Err r) = 0

@@ -1,9 +1,10 @@
--- The bytes of a transition's record, by the words that hold its sets.
+-- The bytes of a transition's record, by its priority and its sets as words.
 -- Assumes nothing.
 use Rattle.std.specs.Prelude.{ℕ, List, [], ◌∷◌}
 use Rattle.model.specs.Sets.{concat_map}
 use Rattle.model.specs.Image.{bytes}
 use Rattle.transitions.specs.declared.Arcs.{Arcs}
+use Rattle.transitions.specs.Arcs.{priority_number}
 
 -- the words of a transition's sets, in the order of its record
 abbrev pub sets_of : Arcs → List ℕ
@@ -20,4 +21,4 @@ sets_of a =
 
 -- the record: the priority, then each set in six bytes
 abbrev pub record_of : Arcs → List ℕ
-record_of a = a.priority ∷ concat_map (bytes 6) (sets_of a)
+record_of a = priority_number a.priority ∷ concat_map (bytes 6) (sets_of a)

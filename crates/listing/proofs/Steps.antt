@@ -1,28 +1,22 @@
--- One step of the hash of a list.
+-- The hash of a list, part by part.
 -- Assumes nothing.
 use Prim.Native.Nat.{ℕ, suc, ◌+◌, ◌-◌, ◌/◌, ◌%◌, ◌<◌}
-use mathlib.Core.Path.{◌≡◌, refl, sym, ap, ◌∙◌}
-use mathlib.Core.List.{List, []}
-use native.Mathlib.Numerals.{add-one}
+use mathlib.Core.Path.{◌≡◌, refl, sym, ap}
+use mathlib.Core.List.{List, [], ◌∷◌, map}
 use native.Mathlib.Omega.{arith}
-use lib.ListN.{length, get_or, drop}
-use lib.Seq.{drop-cons}
-use Rattle.model.specs.Image.{bytes}
+use Rattle.std.specs.List.{fold}
+use Rattle.model.specs.Sets.{concat_map}
+use Rattle.model.specs.Image.{bytes, relation_from}
 use Rattle.listing.specs.Hash.{folded, hashed}
-
-pub hashed_nil : (h : ℕ) → hashed h [] ≡ h
-unfolding hashed
-hashed_nil h = refl
-
--- the bytes from i on, and from the next on
-pub hashed_next : (h : ℕ) (bs : List ℕ) (i : ℕ) → i < length bs → hashed (folded h (get_or bs i 0)) (drop (i + 1) bs) ≡ hashed h (drop i bs)
-unfolding hashed
-hashed_next h bs i l =
-    ap (λ (k : ℕ). hashed (folded h (get_or bs i 0)) (drop k bs)) (add-one i) ∙ sym (ap (hashed h) (drop-cons bs i 0 l))
+use Rattle.listing.specs.Loads.{triple}
 
 -- the bytes of a number, and those behind its lowest
 pub hashed_low : (h x k i : ℕ) → i < k → hashed (folded h (x % 256)) (bytes (k - (i + 1)) (x / 256)) ≡ hashed h (bytes (k - i) x)
-unfolding hashed
 hashed_low h x k i l =
     let e : k - i ≡ suc (k - (i + 1)) = omega arith in
     sym (ap (λ (j : ℕ). hashed h (bytes j x)) e)
+
+-- relations, three bytes each
+pub hashed_triples : (h : ℕ) (rs : List (List ℕ)) → fold (λ s xs. hashed s (triple (relation_from xs))) h rs ≡ hashed h (concat_map triple (map relation_from rs))
+hashed_triples h [] = refl
+hashed_triples h (r ∷ rs) = hashed_triples (hashed h (triple (relation_from r))) rs

@@ -1,6 +1,7 @@
 -- The hash by which listings are compared with those of `reference`.
 -- Assumes nothing.
-use Rattle.std.specs.Prelude.{ℕ, ◌+◌, ◌*◌, ◌%◌, List, [], ◌∷◌}
+use Rattle.std.specs.Prelude.{ℕ, ◌+◌, ◌*◌, ◌%◌, List}
+use Rattle.std.specs.List.{fold}
 
 -- a prime below 2 ^ 32
 abbrev pub modulus : ℕ
@@ -11,6 +12,5 @@ abbrev pub folded : ℕ → ℕ → ℕ
 folded h b = (h % modulus * 257 + b + 1) % modulus
 
 -- a list of bytes
-unfoldable pub hashed : ℕ → List ℕ → ℕ
-hashed h [] = h
-hashed h (b ∷ bs) = hashed (folded h b) bs
+abbrev pub hashed : ℕ → List ℕ → ℕ
+hashed = fold folded

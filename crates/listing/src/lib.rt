@@ -1,14 +1,24 @@
 //! What the programs share that print listings to be compared with those of `reference`: a hash, and reading.
 #![tactic(auto)]
 
-ghost use Rattle.std.specs.Prelude.{◌≡◌, ◌<◌, ◌≤◌, ◌+◌, ◌*◌, length, replicate, IfSome};
+ghost use Rattle.std.specs.Prelude.{◌≡◌, ◌<◌, ◌≤◌, ◌+◌, ◌*◌, length, get_or, replicate, unwrap_or, IfSome};
+ghost use Rattle.std.specs.Result.{result_ok};
 ghost use Rattle.model.specs.Image.{bytes};
+ghost use Rattle.model.specs.Refusals.{verdict_of, verdict_number};
 ghost use Rattle.listing.specs.Hash.{folded, hashed};
 
 mod loads;
 
 pub use loads::print_load;
+use model::Refusal;
 use std::io::Read;
+
+/// A list that is to be composed: its two parts.
+#[derive(Clone, Copy, Debug, PartialEq, Eq)]
+pub struct List<'a> {
+    pub capacities: &'a [u8],
+    pub relations: &'a [u8],
+}
 
 /// The hash with one byte more.
 pub fn fold(h: u64, b: u8) -> u64
@@ -21,11 +31,7 @@ pub fn fold(h: u64, b: u8) -> u64
 pub fn hash(h: u64, bytes: &[u8]) -> u64
     ensures { result ≡ hashed h bytes.now }
 {
-    let mut sum = h;
-    for b in bytes {
-        sum = fold(sum, *b);
-    }
-    sum
+    bytes.iter().fold(h, |sum, b| fold(sum, *b))
 }
 
 /// The hash with the low k bytes of x more, the lowest first.
@@ -80,6 +86,43 @@ pub fn read<'a>(input: &mut impl Read, buf: &'a mut [u8], k: usize) -> Option<&'
         return None;
     }
     Some(part)
+}
+
+/// The next N bytes of the input; nothing where it ends before.
+pub fn read_array<const N: usize>(input: &mut impl Read) -> Option<[u8; N]>
+    ensures { IfSome result (λ bytes. length bytes ≡ N) }
+{
+    let mut buffer = [0; N];
+    read(input, &mut buffer, N)?.first_chunk::<N>().copied()
+}
+
+/// The next list of the input, whose parts have these lengths, at the starts of the buffers; nothing where the input or a buffer ends before.
+pub fn read_list<'a>(
+    input: &mut impl Read,
+    capacities: &'a mut [u8],
+    relations: &'a mut [u8],
+    lengths: [usize; 2],
+) -> Option<List<'a>>
+    ensures capacities { IfSome result (λ list. length list.capacities.now ≡ get_or lengths 0 0) }
+    ensures relations { IfSome result (λ list. length list.relations.now ≡ get_or lengths 1 0) }
+{
+    let capacities = read(input, capacities, lengths[0])?;
+    let relations = read(input, relations, lengths[1])?;
+    Some(List {
+        capacities,
+        relations,
+    })
+}
+
+/// How composing ended, as a listing has it: the verdict's number, and the image's length, 0 where there is none.
+pub fn outcome(composed: Result<usize, Refusal>) -> (u8, usize)
+    ensures number { result.0 ≡ verdict_number (verdict_of composed) }
+    ensures long { result.1 ≡ unwrap_or (result_ok composed) 0 }
+{
+    match composed {
+        Ok(length) => (0, length),
+        Err(refusal) => (refusal.number(), 0),
+    }
 }
 
 /// The number of two bytes, the low one first.

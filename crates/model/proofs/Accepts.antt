@@ -24,7 +24,7 @@ use Rattle.model.proofs.Fields.{write_read}
 use Rattle.model.proofs.Sizes.{equal_true}
 use Rattle.model.proofs.Images.{loads}
 
-agreed : (x y : ℕ) → not (eqb x y) ≡ false → x ≡ y
+pub agreed : (x y : ℕ) → not (eqb x y) ≡ false → x ≡ y
 agreed x y e = eqb-true x y (not-false (eqb x y) e)
 
 split_in_four : (l : List ℕ) (a b c : ℕ) → take a l ++ (take b (drop a l) ++ (take c (drop (a + b) l) ++ drop (a + b + c) l)) ≡ l

@@ -2,7 +2,7 @@
 -- temporary place never holds more tokens than the firings made, and one.
 -- Assumes nothing.
 use Prim.Native.Nat.{ℕ, suc, ◌+◌, ◌*◌, ◌-◌, ◌/◌, ◌%◌, ◌^◌, ◌<◌, ◌≤◌}
-use native.Mathlib.Nat.{zero-add}
+use native.Mathlib.Nat.{zero-add, le_of_suc-le-suc}
 use native.Mathlib.Omega.{arith}
 use mathlib.Core.Path.{◌≡◌, refl, sym, subst, ap₂, ◌∙◌, ap}
 use mathlib.Core.Logic.{⊎_elim}
@@ -23,7 +23,7 @@ use Rattle.model.proofs.Shapes.{Shape, is_act, is_deac, is_drop, is_implied, is_
 use Rattle.model.proofs.Ready.{related_ends, excluded_ends, next_ready}
 use Rattle.model.proofs.Runs.{run_keeps}
 use Rattle.model.proofs.Effects.{granted_step}
-use Rattle.model.proofs.Masks.{set_bit}
+use Rattle.model.proofs.Masks.{bit_lt, set_bit}
 use Rattle.model.proofs.Replay.{Reached, start, then}
 
 abbrev pub Below : ℕ → Set → Type 0
@@ -197,10 +197,6 @@ tokens_few : (x k : ℕ) (t g : Bool) → x ≤ suc k → x - bit t + bit g ≤ 
 tokens_few x k t true h = omega arith
 tokens_few x k t false h = omega arith
 
-bit_few : (b : Bool) → bit b ≤ 1
-bit_few true = omega arith
-bit_few false = omega arith
-
 pub step_few : (net : Net) (m : Counts) (r : Request) → Few (length (step_of net m r).fired) (step_of net m r).marking
 unfolding fire initial_marking
 step_few net m r =
@@ -212,4 +208,4 @@ step_few net m r =
       pr_not = λ c. tokens_few (m'.pr_not c) k (t.takes_not c) (t.gives_not c) (f.pr_not c);
     })
     step_limit 0 (initial_marking m r)
-    (record { pr = λ c. bit_few (r.on && singleton r.context c); pr_not = λ c. bit_few (not r.on && singleton r.context c) }))
+    (record { pr = λ c. le_of_suc-le-suc (bit_lt (r.on && singleton r.context c)); pr_not = λ c. le_of_suc-le-suc (bit_lt (not r.on && singleton r.context c)) }))

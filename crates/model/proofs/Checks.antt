@@ -30,7 +30,7 @@ granted_passes [] e = nil
 granted_passes (c ∷ cs) e = go c.broken refl e (granted_passes cs)
   where
     go : (b : Bool) → c.broken ≡ b → by_test c (first_refusal cs) b ≡ Granted → (first_refusal cs ≡ Granted → Each Passes cs) → Each Passes (c ∷ cs)
-    go true p e k = let z : ◌≡◌ {A = ℕ} 0 1 = cc in absurd (omega arith)
+    go true p e k = absurd (cc)
     go false p e k = cons p (k e)
 
 -- the order of the refusals: whatever stands behind a broken check, all before which pass, its number is met
@@ -40,7 +40,7 @@ first_refused nil c p behind = ap (by_test c (first_refusal behind)) p
 first_refused (cons {x = d} {xs = ds} q qs) c p behind = ap (by_test d (first_refusal (ds ++ (c ∷ behind)))) q ∙ first_refused qs c p behind
 
 pub refused_first : (cs : List Check) (k : Refusal) → first_refusal cs ≡ Refused k → FirstBroken cs k
-refused_first [] k e = let z : ◌≡◌ {A = ℕ} 0 1 = cc in absurd (omega arith)
+refused_first [] k e = absurd (cc)
 refused_first (c ∷ cs) k e = go c.broken refl e (refused_first cs k)
   where
     go : (b : Bool) → c.broken ≡ b → by_test c (first_refusal cs) b ≡ Refused k → (first_refusal cs ≡ Refused k → FirstBroken cs k) → FirstBroken (c ∷ cs) k
@@ -67,7 +67,7 @@ one_of (c ∷ cs) = go c.broken (one_of cs)
 
 pub granted_verdict : (v : Verdict) → is_granted v ≡ true → v ≡ Granted
 granted_verdict Granted e = refl
-granted_verdict (Refused k) e = let z : ◌≡◌ {A = ℕ} 0 1 = cc in absurd (omega arith)
+granted_verdict (Refused k) e = absurd (cc)
 
 -- the numbers rise: a test, so that a list of numbers passes it by computing
 abbrev pub rising : List Check → Bool

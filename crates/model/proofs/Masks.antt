@@ -14,6 +14,7 @@ pub bit_lt : (b : Bool) → bit b < 2
 bit_lt true = omega arith
 bit_lt false = omega arith
 
+-- the lowest digit, and the others
 pub number_suc : (w : ℕ) (f : Set) → number (suc w) f ≡ bit (f 0) + 2 * number w (λ j. f (suc j))
 unfolding number
 number_suc w f = refl

@@ -5,11 +5,13 @@ use Prim.Native.Nat.{ℕ, zero, suc, ◌+◌, ◌<◌, ◌≤◌}
 use native.Mathlib.Nat.{le_of_suc-le-suc, not-suc-le-zero, eq-or-lt_of_le}
 use native.Mathlib.Omega.{arith}
 use mathlib.Core.Path.{◌≡◌, refl, sym, subst, ◌∙◌, ap₂}
-use mathlib.Core.Logic.{◌⊎◌, inl, inr, ⊎_elim}
+use mathlib.Core.Logic.{⊎_elim}
 use mathlib.Core.Bool.{Bool, true, false, ◌&&◌, ◌||◌, false≢true, true≢false}
 use mathlib.Core.Option.{Option, none, some, none-ne-some, some-injective}
 use mathlib.Core.List.{List, [], ◌∷◌, ◌++◌}
 use lib.ListN.{length, get_or, take, drop}
+pub use Rattle.std.proofs.lemmas.Bool.{false_from_ne_true as not_true, cases_Bool as decide, or_cases}
+pub use Rattle.std.proofs.Math.Nat.{eq-zero-or-pos as zero_or_pos}
 use Rattle.model.specs.Sets.{Set, ◌⇒◌, bit, all_below, any, count_passing, concat_map, range, Each, nil, cons}
 use Rattle.model.specs.Firing.{first}
 use Rattle.model.specs.Cases
@@ -28,10 +30,6 @@ and_false false b e p = absurd (false≢true p)
 
 pub and_both : {a b : Bool} → a ≡ true → b ≡ true → a && b ≡ true
 and_both {a} {b} p q = rw (p, q)
-
-pub or_cases : (a b : Bool) → a || b ≡ true → (a ≡ true) ⊎ (b ≡ true)
-or_cases true b e = inl refl
-or_cases false b e = inr e
 
 pub or_left : {a : Bool} (b : Bool) → a ≡ true → a || b ≡ true
 or_left b p = rw p
@@ -68,15 +66,6 @@ imp_make false k = refl
 pub not_both : (b : Bool) → b ≡ true → b ≡ false → ⊥
 not_both b p q = true≢false (sym p ∙ q)
 
-pub not_true : (b : Bool) → (b ≡ true → ⊥) → b ≡ false
-not_true true k = absurd (k refl)
-not_true false k = refl
-
--- a test has one of two values
-pub decide : (b : Bool) → (b ≡ true) ⊎ (b ≡ false)
-decide true = inl refl
-decide false = inr refl
-
 pub below_at : (n : ℕ) (f : Set) → all_below n f ≡ true → (c : ℕ) → c < n → f c ≡ true
 unfolding all_below
 below_at zero f e c h = absurd (not-suc-le-zero h)
@@ -100,11 +89,6 @@ six false b c d e f p = absurd (false≢true p)
 
 pub six_make : {a b c d e f : Bool} → a ≡ true → b ≡ true → c ≡ true → d ≡ true → e ≡ true → f ≡ true → a && b && c && d && e && f ≡ true
 six_make p q r s t u = and_both (and_both (and_both (and_both (and_both p q) r) s) t) u
-
--- a number is 0 or above it
-pub zero_or_pos : (x : ℕ) → (x ≡ 0) ⊎ (0 < x)
-zero_or_pos zero = inl refl
-zero_or_pos (suc x) = inr (omega arith)
 
 module _ {ℓ κ} {A : Type ℓ} where
   module _ {P : A → Type κ} where

@@ -4,15 +4,16 @@ use Prim.Native.Nat.{ℕ, ◌<◌}
 use native.Mathlib.Omega.{arith}
 use mathlib.Core.Path.{◌≡◌, refl, sym, subst, ap}
 use mathlib.Core.Logic.{◌↔◌, inl, inr, ⊎_elim}
-use mathlib.Core.Bool.{Bool, true, false, cond}
+use mathlib.Core.Bool.{Bool, cond, not}
+use lib.Dec.{leb}
 use mathlib.Core.List.Memᴰ
 use mathlib.Core.List.{List, [], ◌∷◌, ◌++◌, Memᴰ}
 use borrow.Author.Tests.{lt-leb, le-leb}
 use Rattle.model.specs.Sets.{Each, nil, cons}
 use Rattle.model.specs.Refusals.{verdict_number, number_of, is_granted, refuse, first_refusal}
 use Rattle.model.specs.Relations.{Net, size, empty_net}
-use Rattle.model.specs.Firing.{Outcome}
-use Rattle.model.specs.Machine.{Counts, Effect, checks_before, checks_after, Board, Entry, State, Reading, activation, deactivation, effect, make_request, undo_from, settle, reply, respond, reading, reading_checks}
+use Rattle.model.specs.Firing.{Outcome, clear}
+use Rattle.model.specs.Machine.{Counts, step_of, checks_before, checks_after, Board, Entry, State, Reading, activation, deactivation, effect, make_request, undo_from, settle, reply, respond, reading, reading_checks}
 use Rattle.model.specs.declared.Request.{Request}
 use Rattle.model.specs.Image.{Format, image, given_net, net_of, records_of, trailer_of, load, load_checks, compose, compose_checks}
 use Rattle.model.specs.Claims.{Reads, LoadRefused, ComposeRefused, OneOf, FirstBroken, InOrder, numbers, call_refusals}
@@ -22,9 +23,8 @@ use Rattle.model.specs.declared.Call.TheVariants.{Activate, Deactivate, Undo, Se
 use Rattle.model.specs.declared.Verdict.{Verdict}
 use Rattle.model.specs.declared.Verdict.TheVariants.{Granted, Refused}
 use Rattle.model.proofs.Checks.{one_of, refused_first, in_order}
-use Rattle.model.proofs.Effects.{Judged, outside, idle, unfinished, unclear, unraised, completed, judged}
-use Rattle.model.proofs.Tests.{not_both}
-use Rattle.model.specs.declared.Refusal.TheVariants.{NoSuchContext, StepLimitMet, TokensLeft, NothingOpen, AlreadyOff, NotRaised}
+use Rattle.model.proofs.Effects.{in_turn}
+use Rattle.model.specs.declared.Refusal.TheVariants.{NoSuchContext, StepLimitMet, TokensLeft, NothingOpen}
 use Rattle.model.specs.declared.Refusal.{Refusal}
 
 -- the order of loading
@@ -72,31 +72,19 @@ pub compose_first : (f : Format) (caps bs out : List ℕ) (k : Refusal) → (com
 unfolding compose
 compose_first f caps bs out k e = refused_first (compose_checks f caps bs (length out)) k e
 
-abbrev verdict_of : Effect → Verdict
-verdict_of x = x.answer.verdict
-
 -- the refusals of a deactivation, which never meets 15, and of an activation, which never meets 14
 deactivation_answers : (net : Net) (m : Counts) (c : ℕ) → OneOf (10 ∷ 14 ∷ 11 ∷ 12 ∷ []) (effect net m (deactivation c)).answer.verdict
-deactivation_answers net m c = go (judged net m (deactivation c))
-  where
-    go : Judged net m (deactivation c) → OneOf (10 ∷ 14 ∷ 11 ∷ 12 ∷ []) (effect net m (deactivation c)).answer.verdict
-    go (outside h e) = inr (NoSuchContext, Memᴰ.head refl, ap verdict_of e)
-    go (idle h e) = inr (AlreadyOff, Memᴰ.tail (Memᴰ.head refl), ap verdict_of e)
-    go (unfinished h u e) = inr (StepLimitMet, Memᴰ.tail (Memᴰ.tail (Memᴰ.head refl)), ap verdict_of e)
-    go (unclear h q k e) = inr (TokensLeft, Memᴰ.tail (Memᴰ.tail (Memᴰ.tail (Memᴰ.head refl))), ap verdict_of e)
-    go (unraised h c l e) = absurd (not_both false l.activates refl)
-    go (completed h c u e) = inl (ap verdict_of e)
+deactivation_answers net m c =
+    let r = deactivation c in
+    let o = step_of net m r in
+    subst (OneOf (10 ∷ 14 ∷ 11 ∷ 12 ∷ [])) (sym (in_turn net m r))
+    (one_of (checks_before net m r ++ (refuse StepLimitMet (not o.quiet) ∷ refuse TokensLeft (not (clear net o.marking)) ∷ [])))
 
 activation_answers : (net : Net) (m : Counts) (c : ℕ) → OneOf (10 ∷ 11 ∷ 12 ∷ 15 ∷ []) (effect net m (activation c)).answer.verdict
-activation_answers net m c = go (judged net m (activation c))
-  where
-    go : Judged net m (activation c) → OneOf (10 ∷ 11 ∷ 12 ∷ 15 ∷ []) (effect net m (activation c)).answer.verdict
-    go (outside h e) = inr (NoSuchContext, Memᴰ.head refl, ap verdict_of e)
-    go (idle h e) = absurd (not_both true refl h.deactivates)
-    go (unfinished h u e) = inr (StepLimitMet, Memᴰ.tail (Memᴰ.head refl), ap verdict_of e)
-    go (unclear h q k e) = inr (TokensLeft, Memᴰ.tail (Memᴰ.tail (Memᴰ.head refl)), ap verdict_of e)
-    go (unraised h d l e) = inr (NotRaised, Memᴰ.tail (Memᴰ.tail (Memᴰ.tail (Memᴰ.head refl))), ap verdict_of e)
-    go (completed h d u e) = inl (ap verdict_of e)
+activation_answers net m c =
+    let r = activation c in
+    subst (OneOf (10 ∷ 11 ∷ 12 ∷ 15 ∷ [])) (sym (in_turn net m r))
+    (one_of (refuse NoSuchContext (leb (size net) c) ∷ checks_after net m r (step_of net m r)))
 
 undo_answers : (b : Board) (es : List Entry) → OneOf (13 ∷ []) (undo_from b es).answer.verdict
 unfolding undo_from
@@ -110,7 +98,7 @@ undo_refused s = go s.board.opened
   where
     go : (es : List Entry) → ((undo_from s.board es).answer.verdict ≡ Refused NothingOpen) ↔ (es ≡ [])
     go [] = (λ _. refl, λ _. refl)
-    go (e ∷ es) = (λ p. let z : ◌≡◌ {A = ℕ} 0 1 = cc in absurd (omega arith), λ p. let z : ◌≡◌ {A = ℕ} 0 1 = cc in absurd (omega arith))
+    go (e ∷ es) = (λ p. absurd (cc), λ p. absurd (cc))
 
 -- reading a count
 pub reads : (s : State) (c : ℕ) → Reads s c

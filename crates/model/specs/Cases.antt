@@ -49,6 +49,8 @@ pub data Case : Type 0 where
   sizes : Net → (t to_relations to_records length : ℕ) → Case
   -- A net of at most 8 contexts and its records. Of each are given the priority and the first byte of each set; the others are 0.
   rows : Net → List (List ℕ) → Case
+  -- The same of a net whose two relations may stand in either order: the last two rows are theirs, and stand in the same order.
+  rows_either : (caps : List ℕ) → (r s : Relation) → (contexts : List (List ℕ)) → (of_r of_s : List ℕ) → Case
   -- a set of these contexts in w bytes
   in_bytes : (w : ℕ) → List ℕ → List ℕ → Case
   -- the last bytes of a net's image
@@ -85,6 +87,22 @@ forced_in_vain = record { caps = 1 ∷ 1 ∷ 1 ∷ []; rels = relation requires 
 abbrev declined_implication : Net
 declined_implication = record { caps = 1 ∷ 1 ∷ 1 ∷ []; rels = relation implies 0 1 ∷ relation excludes 1 2 ∷ relation suggests 2 1 ∷ [] }
 
+-- a suggestion alone
+abbrev suggestion : Net
+suggestion = record { caps = 3 ∷ 3 ∷ []; rels = relation suggests 0 1 ∷ [] }
+
+-- the same, where 1 has room for one token alone
+abbrev full_target : Net
+full_target = record { caps = 2 ∷ 1 ∷ []; rels = relation suggests 0 1 ∷ [] }
+
+-- 0 suggests 1 and 2, which exclude each other, and 1 suggests 2 as well
+abbrev suggested_twice : Net
+suggested_twice =
+    record {
+      caps = 1 ∷ 1 ∷ 1 ∷ [];
+      rels = relation suggests 0 1 ∷ relation excludes 1 2 ∷ relation suggests 1 2 ∷ relation suggests 0 2 ∷ [];
+    }
+
 -- 0 causes 1, which implies 2 and causes 4; 3 excludes 2 and suggests 2 and 4, in the order given.
 abbrev declined_order : (first second : ℕ) → Net
 declined_order x y =
@@ -98,6 +116,20 @@ declined_order x y =
 -- the bytes of an exclusion of 0 and 1, and of each other kind in both directions
 abbrev all_kinds : List ℕ
 all_kinds = excludes ∷ 0 ∷ 1 ∷ concat_map (λ k. k ∷ 0 ∷ 1 ∷ k ∷ 1 ∷ 0 ∷ []) (causes ∷ implies ∷ requires ∷ suggests ∷ [])
+
+-- Calls that several cases make: 5 switched off, and once more in vain; two refused in a row, and undo; those of the listing of bench-run;
+-- and, where 2 declines what 0 asks for, the same once 2 is undone.
+abbrev off_once_more : List Call
+off_once_more = Activate 3 ∷ Deactivate 5 ∷ Deactivate 5 ∷ Deactivate 3 ∷ []
+
+abbrev refused_twice : List Call
+refused_twice = Activate 0 ∷ Activate 0 ∷ Activate 6 ∷ Undo ∷ []
+
+abbrev bench_calls : List Call
+bench_calls = Activate 0 ∷ Activate 4 ∷ Activate 3 ∷ Deactivate 0 ∷ Undo ∷ Undo ∷ Settle ∷ Undo ∷ []
+
+abbrev declined_and_undone : List Call
+declined_and_undone = Activate 2 ∷ Activate 0 ∷ Undo ∷ Activate 0 ∷ []
 
 -- Every case starts with a fresh net. In the comments + activates and - deactivates.
 unfoldable pub cases : List Case
@@ -136,15 +168,15 @@ cases =
     ∷ run six_conditions (Deactivate 5 ∷ []) (line 14 0 0 (0 ∷ 0 ∷ 0 ∷ 0 ∷ 0 ∷ 0 ∷ []) ∷ [])
     ∷ run six_conditions (Deactivate 2 ∷ []) (line 14 0 0 (0 ∷ 0 ∷ 0 ∷ 0 ∷ 0 ∷ 0 ∷ []) ∷ [])
     -- the same in the middle of a list: -5 once more, where 3 still causes it; then the cascade of -3 drops as there
-    ∷ run six_conditions (Activate 3 ∷ Deactivate 5 ∷ Deactivate 5 ∷ Deactivate 3 ∷ [])
+    ∷ run six_conditions off_once_more
     (line granted 3 0 (0 ∷ 0 ∷ 1 ∷ 1 ∷ 0 ∷ 1 ∷ [])
     ∷ line granted 1 0 (0 ∷ 0 ∷ 1 ∷ 1 ∷ 0 ∷ 0 ∷ [])
     ∷ line 14 0 0 (0 ∷ 0 ∷ 1 ∷ 1 ∷ 0 ∷ 0 ∷ [])
     ∷ line granted 3 0 (0 ∷ 0 ∷ 0 ∷ 0 ∷ 0 ∷ 0 ∷ [])
     ∷ [])
     -- such a request counts as refused and is in no history
-    ∷ totals six_conditions (Activate 3 ∷ Deactivate 5 ∷ Deactivate 5 ∷ Deactivate 3 ∷ []) 3 1 0
-    ∷ leaves_history six_conditions (Activate 3 ∷ Deactivate 5 ∷ Deactivate 5 ∷ Deactivate 3 ∷ []) (6 ∷ 11 ∷ 7 ∷ [])
+    ∷ totals six_conditions off_once_more 3 1 0
+    ∷ leaves_history six_conditions off_once_more (6 ∷ 11 ∷ 7 ∷ [])
     -- a drop serves a forced transition too: -2 forces 3, which asks 5 off
     ∷ run six_conditions (Activate 3 ∷ Deactivate 5 ∷ Deactivate 2 ∷ [])
     (line granted 3 0 (0 ∷ 0 ∷ 1 ∷ 1 ∷ 0 ∷ 1 ∷ [])
@@ -189,7 +221,7 @@ cases =
     -- the sizes of the six conditions
     ∷ sizes six_conditions 16 799 784 813
     -- the listing of bench-run, its totals and its history
-    ∷ run six_conditions (Activate 0 ∷ Activate 4 ∷ Activate 3 ∷ Deactivate 0 ∷ Undo ∷ Undo ∷ Settle ∷ Undo ∷ [])
+    ∷ run six_conditions bench_calls
     (line granted 1 0 (1 ∷ 0 ∷ 0 ∷ 0 ∷ 0 ∷ 0 ∷ [])
     ∷ line granted 1 0 (1 ∷ 0 ∷ 0 ∷ 0 ∷ 1 ∷ 0 ∷ [])
     ∷ line 12 2 0 (1 ∷ 0 ∷ 0 ∷ 0 ∷ 1 ∷ 0 ∷ [])
@@ -199,13 +231,13 @@ cases =
     ∷ line granted 0 0 (1 ∷ 0 ∷ 0 ∷ 0 ∷ 0 ∷ 0 ∷ [])
     ∷ line 13 0 0 (1 ∷ 0 ∷ 0 ∷ 0 ∷ 0 ∷ 0 ∷ [])
     ∷ [])
-    ∷ totals six_conditions (Activate 0 ∷ Activate 4 ∷ Activate 3 ∷ Deactivate 0 ∷ Undo ∷ Undo ∷ Settle ∷ Undo ∷ []) 3 2 2
-    ∷ leaves_history six_conditions (Activate 0 ∷ Activate 4 ∷ Activate 3 ∷ Deactivate 0 ∷ Undo ∷ Undo ∷ Settle ∷ Undo ∷ []) (0 ∷ [])
+    ∷ totals six_conditions bench_calls 3 2 2
+    ∷ leaves_history six_conditions bench_calls (0 ∷ [])
     -- 33 activations, of which 32 can be undone
     ∷ verdicts six_conditions (replicate 33 (Activate 5) ++ replicate 33 Undo) (replicate 65 granted ++ (13 ∷ []))
     -- a refused request keeps the open list, and refusal 10 counts
-    ∷ verdicts six_conditions (Activate 0 ∷ Activate 0 ∷ Activate 6 ∷ Undo ∷ []) (granted ∷ 12 ∷ 10 ∷ granted ∷ [])
-    ∷ totals six_conditions (Activate 0 ∷ Activate 0 ∷ Activate 6 ∷ Undo ∷ []) 1 2 1
+    ∷ verdicts six_conditions refused_twice (granted ∷ 12 ∷ 10 ∷ granted ∷ [])
+    ∷ totals six_conditions refused_twice 1 2 1
     -- a ring of three implications at capacity 2: refused when all are full, as the ring of 16 is at 255
     ∷ run (record { caps = 2 ∷ 2 ∷ 2 ∷ []; rels = relation implies 0 1 ∷ relation implies 1 2 ∷ relation implies 2 0 ∷ [] }) (Activate 0 ∷ [])
     (line 12 6 0 (0 ∷ 0 ∷ 0 ∷ []) ∷ [])
@@ -366,9 +398,9 @@ cases =
     (line granted 1 0 (0 ∷ 0 ∷ 1 ∷ []) ∷ line granted 2 0 (1 ∷ 0 ∷ 1 ∷ []) ∷ [])
     ∷ run (record { caps = 1 ∷ 1 ∷ 1 ∷ []; rels = relation suggests 0 1 ∷ relation requires 1 2 ∷ [] }) (Activate 0 ∷ [])
     (line granted 2 0 (1 ∷ 0 ∷ 0 ∷ []) ∷ [])
-    ∷ run (record { caps = 2 ∷ 1 ∷ []; rels = relation suggests 0 1 ∷ [] }) (Activate 0 ∷ Activate 0 ∷ [])
+    ∷ run full_target (Activate 0 ∷ Activate 0 ∷ [])
     (line granted 2 0 (1 ∷ 1 ∷ []) ∷ line granted 2 0 (2 ∷ 1 ∷ []) ∷ [])
-    ∷ fires (record { caps = 2 ∷ 1 ∷ []; rels = relation suggests 0 1 ∷ [] }) (Activate 0 ∷ []) (activation 0) (activates ∷ declines ∷ [])
+    ∷ fires full_target (Activate 0 ∷ []) (activation 0) (activates ∷ declines ∷ [])
     -- two that suggest each other fill up, and the last token is declined
     ∷ run
     (record {
@@ -378,15 +410,15 @@ cases =
     (Activate 1 ∷ []) (line granted 5 0 (2 ∷ 2 ∷ []) ∷ [])
     -- 15: what an implication asked for is declined, so the source of the implication is forced off again; nothing of it is kept, it
     -- opens nothing and counts as refused
-    ∷ run declined_implication (Activate 2 ∷ Activate 0 ∷ Undo ∷ Activate 0 ∷ [])
+    ∷ run declined_implication declined_and_undone
     (line granted 2 0 (0 ∷ 0 ∷ 1 ∷ [])
     ∷ line 15 3 1 (0 ∷ 0 ∷ 1 ∷ [])
     ∷ line granted 0 0 (0 ∷ 0 ∷ 0 ∷ [])
     ∷ line granted 2 0 (1 ∷ 1 ∷ 0 ∷ [])
     ∷ [])
     ∷ fires declined_implication (Activate 2 ∷ []) (activation 0) (activates ∷ declines ∷ forces ∷ [])
-    ∷ totals declined_implication (Activate 2 ∷ Activate 0 ∷ Undo ∷ Activate 0 ∷ []) 2 1 1
-    ∷ leaves_history declined_implication (Activate 2 ∷ Activate 0 ∷ Undo ∷ Activate 0 ∷ []) (0 ∷ [])
+    ∷ totals declined_implication declined_and_undone 2 1 1
+    ∷ leaves_history declined_implication declined_and_undone (0 ∷ [])
     -- what such a request brought along goes with it: 3, which 0 suggests, was on when the step ended
     ∷ run
     (record {
@@ -397,7 +429,7 @@ cases =
     (line granted 2 0 (0 ∷ 0 ∷ 1 ∷ 0 ∷ []) ∷ line 15 4 1 (0 ∷ 0 ∷ 1 ∷ 0 ∷ []) ∷ [])
     -- the request's own token can be declined too, with the count where it was
     ∷ run declined_implication (Activate 2 ∷ Activate 1 ∷ []) (line granted 2 0 (0 ∷ 0 ∷ 1 ∷ []) ∷ line 15 1 0 (0 ∷ 0 ∷ 1 ∷ []) ∷ [])
-    ∷ run (record { caps = 2 ∷ 1 ∷ []; rels = relation suggests 0 1 ∷ [] }) (Activate 1 ∷ Activate 1 ∷ [])
+    ∷ run full_target (Activate 1 ∷ Activate 1 ∷ [])
     (line granted 1 0 (0 ∷ 1 ∷ []) ∷ line 15 1 0 (0 ∷ 1 ∷ []) ∷ [])
     -- Where act of the requested context fired, its count can still end where it was, or lower.
     ∷ run
@@ -449,22 +481,13 @@ cases =
     -- a deactivation ends with its context lower, and never meets 15
     ∷ verdicts declined_implication (Activate 2 ∷ Deactivate 2 ∷ Activate 0 ∷ Deactivate 1 ∷ []) (granted ∷ granted ∷ granted ∷ granted ∷ [])
     -- a suggestion and an implication between the same two contexts, in both orders: the arcs are one, the transitions two
-    ∷ rows (record { caps = 1 ∷ 1 ∷ []; rels = relation suggests 0 1 ∷ relation implies 0 1 ∷ [] })
+    ∷ rows_either (1 ∷ 1 ∷ []) (relation suggests 0 1) (relation implies 0 1)
     ((2 ∷ 0 ∷ 1 ∷ 0 ∷ 1 ∷ 2 ∷ 0 ∷ 0 ∷ 0 ∷ [])
     ∷ (2 ∷ 1 ∷ 0 ∷ 1 ∷ 0 ∷ 0 ∷ 2 ∷ 0 ∷ 0 ∷ [])
     ∷ (2 ∷ 0 ∷ 2 ∷ 0 ∷ 2 ∷ 0 ∷ 0 ∷ 0 ∷ 0 ∷ [])
     ∷ (2 ∷ 2 ∷ 0 ∷ 2 ∷ 0 ∷ 0 ∷ 0 ∷ 0 ∷ 0 ∷ [])
-    ∷ (1 ∷ 0 ∷ 2 ∷ 0 ∷ 0 ∷ 0 ∷ 0 ∷ 0 ∷ 0 ∷ [])
-    ∷ (2 ∷ 1 ∷ 0 ∷ 0 ∷ 0 ∷ 0 ∷ 0 ∷ 2 ∷ 2 ∷ [])
     ∷ [])
-    ∷ rows (record { caps = 1 ∷ 1 ∷ []; rels = relation implies 0 1 ∷ relation suggests 0 1 ∷ [] })
-    ((2 ∷ 0 ∷ 1 ∷ 0 ∷ 1 ∷ 2 ∷ 0 ∷ 0 ∷ 0 ∷ [])
-    ∷ (2 ∷ 1 ∷ 0 ∷ 1 ∷ 0 ∷ 0 ∷ 2 ∷ 0 ∷ 0 ∷ [])
-    ∷ (2 ∷ 0 ∷ 2 ∷ 0 ∷ 2 ∷ 0 ∷ 0 ∷ 0 ∷ 0 ∷ [])
-    ∷ (2 ∷ 2 ∷ 0 ∷ 2 ∷ 0 ∷ 0 ∷ 0 ∷ 0 ∷ 0 ∷ [])
-    ∷ (2 ∷ 1 ∷ 0 ∷ 0 ∷ 0 ∷ 0 ∷ 0 ∷ 2 ∷ 2 ∷ [])
-    ∷ (1 ∷ 0 ∷ 2 ∷ 0 ∷ 0 ∷ 0 ∷ 0 ∷ 0 ∷ 0 ∷ [])
-    ∷ [])
+    (1 ∷ 0 ∷ 2 ∷ 0 ∷ 0 ∷ 0 ∷ 0 ∷ 0 ∷ 0 ∷ []) (2 ∷ 1 ∷ 0 ∷ 0 ∷ 0 ∷ 0 ∷ 0 ∷ 2 ∷ 2 ∷ [])
     ∷ run_either (1 ∷ 1 ∷ 1 ∷ []) (relation suggests 0 1) (relation implies 0 1) (relation excludes 1 2 ∷ [])
     (Activate 0 ∷ Deactivate 0 ∷ Activate 2 ∷ Activate 0 ∷ [])
     (line granted 2 0 (1 ∷ 1 ∷ 0 ∷ [])
@@ -474,18 +497,12 @@ cases =
     ∷ [])
     -- of two tokens each is declined by itself, though two suggestions have the same target
     ∷ run
-    (record {
-      caps = 1 ∷ 1 ∷ 1 ∷ [];
-      rels = relation suggests 0 1 ∷ relation excludes 1 2 ∷ relation suggests 1 2 ∷ relation suggests 0 2 ∷ [];
-    })
+    suggested_twice
     (Activate 0 ∷ [])
     (line granted 4 0 (1 ∷ 1 ∷ 0 ∷ [])
     ∷ [])
     ∷ sizes
-    (record {
-      caps = 1 ∷ 1 ∷ 1 ∷ [];
-      rels = relation suggests 0 1 ∷ relation excludes 1 2 ∷ relation suggests 1 2 ∷ relation suggests 0 2 ∷ [];
-    })
+    suggested_twice
     9 453 441 464
     -- what is asked off does not keep a decline back
     ∷ run
@@ -589,7 +606,7 @@ cases =
     ∷ [])
     -- A suggestion in an image: its sizes; its ends are tested as those of any relation; the other direction, another source and another kind
     -- are other relations; stated twice it is refused, and so is a kind of 255.
-    ∷ sizes (record { caps = 3 ∷ 3 ∷ []; rels = relation suggests 0 1 ∷ [] }) 5 248 245 258
+    ∷ sizes suggestion 5 248 245 258
     ∷ composes (3 ∷ 3 ∷ []) (5 ∷ 0 ∷ 1 ∷ 5 ∷ 1 ∷ 0 ∷ []) 310 granted
     ∷ composes (3 ∷ 3 ∷ []) (5 ∷ 0 ∷ 1 ∷ 3 ∷ 0 ∷ 1 ∷ 5 ∷ 0 ∷ 1 ∷ []) 999 7
     ∷ composes (3 ∷ 3 ∷ []) (255 ∷ 0 ∷ 1 ∷ []) 999 6
@@ -601,7 +618,7 @@ cases =
     ∷ composes (3 ∷ 3 ∷ []) all_kinds 624 8
     -- loading one: whole, with a decline of priority 2, and with the records of another kind
     ∷ loads (image edition_1 declined_implication) granted
-    ∷ loads (set (image edition_1 (record { caps = 3 ∷ 3 ∷ []; rels = relation suggests 0 1 ∷ [] })) 201 2) 9
+    ∷ loads (set (image edition_1 suggestion) 201 2) 9
     ∷ loads (set pair_image 2 suggests) 9
     ∷ []
 
@@ -664,6 +681,11 @@ holds (sizes net t to_relations to_records k) =
     && eqb (trailer_of edition_1 img).to_records to_records
     && eqb (length img) k
 holds (rows net rs) = equal_lists (records edition_1 net) (concat_map whole_record rs)
+holds (rows_either caps r s rs x y) =
+    let ordered : Relation → Relation → List ℕ → List ℕ → Bool =
+    λ p q v w.
+    equal_lists (records edition_1 (record { caps = caps; rels = p ∷ q ∷ [] })) (concat_map whole_record (rs ++ (v ∷ w ∷ []))) in
+    ordered r s x y && ordered s r y x
 holds (in_bytes w cs bs) = equal_lists (set_bytes w (λ c. any (eqb c) cs)) bs
 holds (ends net from bs) = equal_lists (drop from (image edition_1 net)) bs
 holds (reads n c count v x) =

@@ -10,6 +10,7 @@ mod calls;
 mod refusals;
 mod tallies;
 
+pub use calls::UnknownCall;
 pub use refusals::UnknownRefusal;
 
 /// The four calls; a request carries the number of its context.

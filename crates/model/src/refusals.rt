@@ -1,6 +1,6 @@
-// Refusals by number and in words, and the verdict of a check.
+//! Refusals by number and in words, and the verdict of a check.
 ghost use Rattle.std.specs.Prelude.{◌≡◌};
-ghost use Rattle.model.specs.Refusals.{Numbers, verdict_of};
+ghost use Rattle.model.specs.Refusals.{Numbers, number_of, verdict_number, verdict_of};
 
 use crate::{Refusal, Verdict};
 use std::error::Error;
@@ -63,6 +63,22 @@ impl fmt::Display for Refusal {
 impl fmt::Display for UnknownRefusal {
     fn fmt<W: fmt::Write>(&self, f: &mut fmt::Formatter<W>) -> fmt::Result {
         write!(f, "no refusal has the number {}", self.0)
+    }
+}
+
+impl From<Refusal> for u8 {
+    ghost from_gives = { λ refusal number. number ≡ number_of refusal };
+
+    fn from(refusal: Refusal) -> Self {
+        refusal.number()
+    }
+}
+
+impl From<Verdict> for u8 {
+    ghost from_gives = { λ verdict number. number ≡ verdict_number verdict };
+
+    fn from(verdict: Verdict) -> Self {
+        verdict.number()
     }
 }
 

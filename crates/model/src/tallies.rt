@@ -1,4 +1,4 @@
-// How a call moves the totals.
+//! How a call moves the totals.
 ghost use Rattle.std.specs.Prelude.{◌≡◌};
 ghost use Rattle.model.specs.Sets.{bit};
 ghost use Rattle.model.specs.Machine.{saturating_add, adds_granted, adds_refused, adds_undone, tally_after};

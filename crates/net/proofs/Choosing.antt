@@ -30,7 +30,7 @@ use Rattle.model.proofs.Walks.{two_priorities, urgent, next_urgent, next_other}
 use Rattle.net.specs.Tables.{row, blank, Stores}
 use Rattle.net.specs.Markings.{Shows}
 use Rattle.net.specs.Walks.{ready_row, urgent_row, movable, own_at, Finds, Prefers, FindsOwn, PrefersUrgent, Fires, Chooses}
-use Rattle.net.specs.declared.Marked.{Marked}
+use Rattle.net.specs.declared.marked.Marked.{Marked}
 use Rattle.net.specs.declared.table.Table.{Table}
 use Rattle.net.specs.declared.net.Net.{Net}
 use Rattle.net.proofs.Finding.{own_passing, extra_passing}

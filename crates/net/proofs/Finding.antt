@@ -1,82 +1,104 @@
--- A walk over numbers, from the lowest on, which passes over those that fail a test.
+-- The transitions that the walk finds: of the contexts that can move, the first that is ready; of the others, the first of the higher priority.
 -- Assumes nothing.
 use Prim.Native.Nat.{ℕ, ◌+◌, ◌*◌, ◌/◌, ◌≤◌, ◌<◌}
-use mathlib.Core.Bool.{Bool, true, false, ◌&&◌}
-use mathlib.Core.Path.{◌≡◌, refl, sym, ap, subst, ◌∙◌}
+use mathlib.Core.Bool.{Bool, true, false, ◌&&◌, not}
+use mathlib.Core.Path.{◌≡◌, sym, ap, ◌∙◌}
 use mathlib.Core.Logic.{inl, inr}
 use Rattle.std.proofs.Common.{Option, Some, None}
 use Rattle.std.specs.Option.{option_or}
-use Rattle.std.proofs.lemmas.Bool.{cases_eq, cases_lt}
-use native.Mathlib.Decide.{dec_lt}
+use Rattle.std.proofs.Math.Bool.{and-false, and-true}
+use Rattle.std.proofs.lemmas.Bool.{cases_eq}
 use native.Mathlib.Omega.{arith}
-use lib.Dec.{leb}
-use lib.ListN.{get_or}
-use Rattle.sets.specs.Sets.{members}
+use borrow.Author.Tests.{ltb-true, lt-ltb, ne_eqb}
+use lib.Dec.{eqb, ltb, leb}
+use Rattle.sets.specs.Sets.{members, upto}
+use Rattle.sets.specs.Members.{GivesNext}
 use Rattle.sets.proofs.Laws.{contained}
+use Rattle.sets.proofs.Least.{left_members}
 use Rattle.model.specs.Sets.{number}
 use Rattle.model.proofs.Tests.{and_both, and_left, and_right}
+use Rattle.transitions.specs.Arcs.{priority_number}
+use Rattle.transitions.specs.declared.Arcs.{Arcs}
+use Rattle.transitions.specs.declared.priority.Priority.{Priority}
+use Rattle.transitions.specs.declared.priority.Priority.TheVariants.{Late, Urgent}
 use Rattle.net.specs.Tables.{row}
 use Rattle.net.specs.Walks.{passes, ready_row, urgent_row, movable, own_at, Finds, Prefers, FindsOwn, PrefersUrgent, Passing}
-use Rattle.net.specs.declared.Marked.{Marked}
+use Rattle.net.specs.declared.marked.Marked.{Marked}
 use Rattle.net.specs.declared.table.Table.{Table}
 use Rattle.net.specs.declared.net.Net.{Net}
-use Rattle.net.proofs.Readiness.{and_none}
 
--- none of the numbers from a on, below e, passes the test, as far as i
-abbrev pub Passed : (ℕ → Bool) → (a e i : ℕ) → Type 0
-Passed f a e i = (j : ℕ) → a ≤ j → j < e → j < i → f j ≡ false
+-- the contexts that are left of those that can move: no transition of the others can fire
+pub record Left (net : Net) (s : Marked) (spare left : ℕ) : Type 0 where
+  pub inside : (c : ℕ) → c < 64 → members left c ≡ true → (c < net.contexts) × (movable s spare c ≡ true)
+  pub others : (j : ℕ) → j < 2 * net.contexts → members left (j / 2) ≡ false → own_at net.table s spare j ≡ false
 
-module _ (f : ℕ → Bool) (a e : ℕ) where
-  pub passed_none : (i : ℕ) → i ≤ a → Passed f a e i
-  passed_none i h j l m k = absurd (omega arith)
-
-  pub passed_more : (i : ℕ) → Passed f a e i → f i ≡ false → Passed f a e (i + 1)
-  passed_more i p q j l m k = go (dec_lt j i)
-    where
-      go : Dec (j < i) → f j ≡ false
-      go (yes h) = p j l m h
-      go (no h) = ap f (omega arith) ∙ q
-
-  pub finds_at : (i : ℕ) → a ≤ i → i < e → f i ≡ true → Passed f a e i → Finds (Some i) a e f
-  unfolding Finds
-  finds_at i l h q p = (l, h, q, λ j m k. p j m (omega arith) k)
-
-  pub finds_none : (i : ℕ) → e ≤ i → Passed f a e i → Finds None a e f
-  unfolding Finds
-  finds_none i h p j l m = p j l m (omega arith)
-
--- the two transitions of each context where one may be ready
-module _ (net : Net) (s : Marked) (spare : ℕ) {able : ℕ} (e : able ≡ number 64 (movable s spare)) where
+module _ (net : Net) (s : Marked) (spare : ℕ) where
   abbrev n : ℕ
   n = net.contexts
 
-  abbrev test : ℕ → Bool
-  test = own_at net.table s spare
+  abbrev ready : ℕ → Bool
+  ready = ready_row net.table s spare
 
-  own_is : (c j : ℕ) → c < n → j / 2 ≡ c → test j ≡ (members able c && ready_row net.table s spare j)
-  own_is c j h q =
-      ap (λ (x : ℕ). movable s spare x && ready_row net.table s spare j) q
-      ∙ ap (λ (b : Bool). b && ready_row net.table s spare j) (sym (contained 64 (movable s spare) e c (omega (arith, net.few_contexts))))
+  -- at first all are left
+  pub left_start : {able left : ℕ} → able ≡ number 64 (movable s spare) → left ≡ number 64 (upto n (members able)) → Left net s spare left
+  left_start {able} {left} e f =
+      record {
+        inside = λ c h t.
+            let both = sym (contained 64 (upto n (members able)) f c h) ∙ t in
+            (ltb-true c n (and_left (ltb c n) (members able c) both), sym (contained 64 (movable s spare) e c h) ∙ and_right (ltb c n) (members able c) both);
+        others = λ j h t.
+            let c : j / 2 < n = omega arith in
+            let low : j / 2 < 64 = omega (arith, net.few_contexts) in
+            let able_is = contained 64 (movable s spare) e (j / 2) low in
+            let left_is = contained 64 (upto n (members able)) f (j / 2) low in
+            let none : movable s spare (j / 2) ≡ false = sym able_is ∙ sym (ap (λ (b : Bool). b && members able (j / 2)) (lt-ltb (j / 2) n c)) ∙ sym left_is ∙ t in
+            ap (λ (b : Bool). b && ready j) none;
+      }
 
-  pub own_fails : (c j : ℕ) → c < n → j / 2 ≡ c → ready_row net.table s spare j ≡ false → test j ≡ false
-  own_fails c j h q p = own_is c j h q ∙ ap (λ (b : Bool). members able c && b) p ∙ and_none (members able c)
+  module _ {left : ℕ} (l : Left net s spare left) where
+    -- the transitions of a context that is left, where they are not ready
+    unready : (j : ℕ) → ready j ≡ false → own_at net.table s spare j ≡ false
+    unready j e = ap (λ (b : Bool). movable s spare (j / 2) && b) e ∙ and-false (movable s spare (j / 2))
 
-  pub own_hit : (c j : ℕ) → c < n → j / 2 ≡ c → members able c ≡ true → ready_row net.table s spare j ≡ true → test j ≡ true
-  own_hit c j h q t p = own_is c j h q ∙ and_both t p
+    module _ {c after : ℕ} (next : GivesNext left (Some c) after) where
+      -- one of the least context that is left, if those before it are not ready
+      pub own_found : (i : ℕ) → i / 2 ≡ c → ready i ≡ true → ((j : ℕ) → j / 2 ≡ c → j < i → ready j ≡ false) → FindsOwn net s spare (Some i)
+      unfolding Finds
+      own_found i q e before =
+          let here = l.inside c next.0 next.1.hit in (
+            omega arith,
+            omega (arith, here.0),
+            and_both (ap (movable s spare) q ∙ here.1) e,
+            λ j b k.
+                elim (cases_eq (j / 2) c) [
+                  | inl same ↦ unready j (before j same k)
+                  | inr other ↦ l.others j (omega (arith, here.0)) (next.1.gap (j / 2) (omega arith))
+                ],
+          )
 
-  -- the contexts from a on, below c, are passed over
-  pub own_past : (a c : ℕ) → c ≤ n → Passed test 0 (2 * n) (2 * a) → ((j : ℕ) → a ≤ j → j < c → members able j ≡ false) → Passed test 0 (2 * n) (2 * c)
-  own_past a c h p gap j l m k =
-      elim (cases_lt j (2 * a)) [
-        | inl before ↦ p j l m before
-        | inr behind ↦ own_is (j / 2) j (omega arith) refl ∙ ap (λ (b : Bool). b && ready_row net.table s spare j) (gap (j / 2) (omega arith) (omega arith))
-      ]
+      -- and the others are left, if neither of its two is ready
+      pub left_more : ready (2 * c) ≡ false → ready (2 * c + 1) ≡ false → Left net s spare after
+      left_more act deac =
+          record {
+            inside = λ j h t. l.inside j h (and_left (members left j) (not (eqb j c)) (sym (left_members left c next.2 j h) ∙ t));
+            others = λ j h t.
+                elim (cases_eq (j / 2) c) [
+                  | inl same ↦ unready j (at j same)
+                  | inr other ↦ l.others j h (sym (and-true (members left (j / 2))) ∙ sym (ap (λ (b : Bool). members left (j / 2) && not b) (ne_eqb (j / 2) c other)) ∙ sym (left_members left c next.2 (j / 2) (omega (arith, net.few_contexts))) ∙ t)
+                ];
+          }
+        where
+          at : (j : ℕ) → j / 2 ≡ c → ready j ≡ false
+          at j same =
+              elim (cases_eq j (2 * c)) [
+                | inl first ↦ ap ready first ∙ act
+                | inr second ↦ (let q : j ≡ 2 * c + 1 = omega arith in ap ready q ∙ deac)
+              ]
 
-  -- both transitions of one are not ready
-  pub own_both : (c : ℕ) → Passed test 0 (2 * n) (2 * c) → test (2 * c) ≡ false → test (2 * c + 1) ≡ false → Passed test 0 (2 * n) (2 * (c + 1))
-  own_both c p f g =
-      subst (Passed test 0 (2 * n)) (omega arith)
-      (passed_more test 0 (2 * n) (2 * c + 1) (passed_more test 0 (2 * n) (2 * c) p f) g)
+    -- where none is left none of their transitions can fire
+    pub none_found : ((j : ℕ) → members left j ≡ false) → FindsOwn net s spare None
+    unfolding Finds
+    none_found none j b h = l.others j h (none (j / 2))
 
 -- of the others the first of priority 2, or else the first: one more step of a walk as far as i, where low is the first ready one
 module _ (f : ℕ → Bool) (a i : ℕ) where
@@ -106,13 +128,22 @@ module _ (urgent ready : ℕ → Bool) (a e : ℕ) where
   prefers_low (Some k) none first = inr (none, first)
   prefers_low None none first = first
 
--- a transition that fails one of the two tests is not urgent
-module _ (table : Table) (s : Marked) (spare i : ℕ) where
-  pub not_high : leb 2 (row table i).priority ≡ false → urgent_row table s spare i ≡ false
-  not_high p = ap (λ (b : Bool). ready_row table s spare i && b) p ∙ and_none (ready_row table s spare i)
+-- what the sets and the priority of transition i say of it
+module _ (table : Table) (s : Marked) (spare i : ℕ) {a : Arcs} (e : a ≡ row table i) where
+  pub ready_told : {told : Bool} → told ≡ passes a s spare → ready_row table s spare i ≡ told
+  unfolding ready_row
+  ready_told f = sym (f ∙ ap (λ (x : Arcs). passes x s spare) e)
+
+  pub is_high : ready_row table s spare i ≡ true → a.priority ≡ Urgent → urgent_row table s spare i ≡ true
+  is_high r p = and_both r (ap (λ (x : Arcs). leb 2 (priority_number x.priority)) (sym e) ∙ ap (λ (x : Priority). leb 2 (priority_number x)) p)
+
+  pub not_high : a.priority ≡ Late → urgent_row table s spare i ≡ false
+  not_high p =
+      ap (λ (x : Arcs). ready_row table s spare i && leb 2 (priority_number x.priority)) (sym e)
+      ∙ ap (λ (x : Priority). ready_row table s spare i && leb 2 (priority_number x)) p ∙ and-false (ready_row table s spare i)
 
   pub not_ready : ready_row table s spare i ≡ false → urgent_row table s spare i ≡ false
-  not_ready r = ap (λ (b : Bool). b && leb 2 (get_or table.priority i 0)) r
+  not_ready r = ap (λ (b : Bool). b && leb 2 (priority_number (row table i).priority)) r
 
 -- what is found is ready
 module _ (net : Net) (s : Marked) (spare : ℕ) where
@@ -124,6 +155,6 @@ module _ (net : Net) (s : Marked) (spare : ℕ) where
   pub extra_passing : (r : Option ℕ) → PrefersUrgent net s spare r → Passing r net s spare
   unfolding Finds Prefers Passing ready_row
   extra_passing (Some i) (inl f) =
-      (omega (arith, f.1, net.table.few), and_left (passes (row net.table i) s spare) (leb 2 (get_or net.table.priority i 0)) f.2)
+      (omega (arith, f.1, net.table.few), and_left (passes (row net.table i) s spare) (leb 2 (priority_number (row net.table i).priority)) f.2)
   extra_passing (Some i) (inr (g, f)) = (omega (arith, f.1, net.table.few), f.2)
   extra_passing None f = tt

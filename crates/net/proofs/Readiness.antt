@@ -17,11 +17,7 @@ use Rattle.transitions.specs.Arcs.{Holds}
 use Rattle.transitions.specs.declared.Arcs.{Arcs}
 use Rattle.net.specs.Markings.{Shows}
 use Rattle.net.specs.Walks.{passes_first, passes_last, passes}
-use Rattle.net.specs.declared.Marked.{Marked}
-
-pub and_none : (a : Bool) → (a && false) ≡ false
-and_none true = refl
-and_none false = refl
+use Rattle.net.specs.declared.marked.Marked.{Marked}
 
 shuffle : (a x b y : Bool) → ((a && x) && (b && y)) ≡ ((a && b) && (x && y))
 shuffle true true b y = refl

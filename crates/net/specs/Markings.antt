@@ -1,11 +1,11 @@
--- How the engine's words and arrays are read as a marking of the model.
+-- How the engine's sets and arrays are read as a marking of the model.
 -- Assumes nothing.
 use Rattle.std.specs.Prelude.{ℕ, ◌+◌, ◌≤◌, cond, ◌≡◌, List, ltb, get_or}
 use Rattle.sets.specs.Sets.{upto}
 use Rattle.model.specs.Sets.{number}
 use Rattle.model.specs.Firing.{Marking, holds_token}
 use Rattle.model.specs.Machine.{Counts}
-use Rattle.net.specs.declared.Marked.{Marked}
+use Rattle.net.specs.declared.marked.Marked.{Marked}
 
 -- the count of context c is entry c
 abbrev pub counts_in : List ℕ → Counts
@@ -20,7 +20,7 @@ marking counts temps =
       pr_not = λ c. get_or temps (48 + c) 0;
     }
 
--- the words of a marking of n contexts: the places of each kind that hold a token
+-- the sets of a marking of n contexts: the places of each kind that hold a token
 pub record Shows (n : ℕ) (m : Marking) (s : Marked) : Type 0 where
   pub context : s.context ≡ number 64 (upto n (holds_token m.count))
   pub pr : s.pr ≡ number 64 (upto n (holds_token m.pr))

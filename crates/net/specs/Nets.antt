@@ -25,6 +25,6 @@ net_with net capacities = record { caps = take (contexts_of net) capacities; rel
 abbrev pub transitions_in : Net → List Transition
 transitions_in net = transitions_of (contexts_of net) (rels_of net)
 
--- the words of transition i
+-- the sets of transition i
 abbrev pub arcs_of : Net → ℕ → Arcs
 arcs_of net i = row net.table i

@@ -1,4 +1,4 @@
--- Readiness by the words of a marking and the set of the contexts with room, and what a walk over the transitions finds.
+-- Readiness by the marked places and the set of the contexts with room, and what a walk over the transitions finds.
 -- Assumes nothing.
 use Rattle.std.specs.Prelude.{ℕ, ◌*◌, ◌/◌, ◌<◌, ◌≤◌, Bool, true, false, ◌&&◌, ◌≡◌, ◌⊎◌, leb, length, get_or, Option, Some, None}
 use Rattle.std.proofs.Math.Option.{none, some}
@@ -12,12 +12,13 @@ use Rattle.model.specs.Claims.{Fits}
 use Rattle.net.specs.Tables.{row, blank, Stores}
 use Rattle.net.specs.Nets.{contexts_of, arcs_of}
 use Rattle.net.specs.Markings.{Shows}
+use Rattle.transitions.specs.Arcs.{priority_number}
 use Rattle.transitions.specs.declared.Arcs.{Arcs}
-use Rattle.net.specs.declared.Marked.{Marked}
+use Rattle.net.specs.declared.marked.Marked.{Marked}
 use Rattle.net.specs.declared.table.Table.{Table}
 use Rattle.net.specs.declared.net.Net.{Net}
 
--- A transition's words against those of a marking. First the tests that fail most often: no marked context inhibits it, and the contexts
+-- A transition's sets against the marked places. First the tests that fail most often: no marked context inhibits it, and the contexts
 -- and Pr(¬c) that it takes are marked.
 unfoldable pub passes_first : Arcs → Marked → Bool
 passes_first a s =
@@ -33,7 +34,7 @@ passes_last a s spare =
     && apart 64 (members a.inhib_pr) (members s.pr)
     && within 64 (minus (members a.gives_context) (members a.takes_context)) (members spare)
 
--- "ready", as the words and `spare`, the set of the contexts below their capacity, tell it
+-- "ready", as the marked places and `spare`, the set of the contexts below their capacity, tell it
 unfoldable pub passes : Arcs → Marked → (spare : ℕ) → Bool
 passes a s spare = passes_first a s && passes_last a s spare
 
@@ -43,7 +44,7 @@ ready_row table s spare i = passes (row table i) s spare
 
 -- transition i is ready and has priority 2, the highest
 abbrev pub urgent_row : Table → Marked → (spare : ℕ) → ℕ → Bool
-urgent_row table s spare i = ready_row table s spare i && leb 2 (get_or table.priority i 0)
+urgent_row table s spare i = ready_row table s spare i && leb 2 (priority_number (row table i).priority)
 
 -- The contexts whose own transitions may be ready: c has a token on Pr(c) and stands below its capacity, or has one on Pr(¬c) and is active.
 unfoldable pub movable : Marked → (spare : ℕ) → Set
@@ -82,9 +83,9 @@ unfoldable pub Fires : Option ℕ → model.Net → Marking → Type 0
 Fires (Some i) net m = (i < length (transitions net)) × (next_of net m ≡ some (get_or (transitions net) i blank))
 Fires None net m = next_of net m ≡ none
 
--- What a walk chooses, by a marking's words and the set `spare` alone: what it finds can fire; and of every net of as many contexts whose
+-- What a walk chooses, by a marking's sets and the set `spare` alone: what it finds can fire; and of every net of as many contexts whose
 -- relations fit it and whose transitions stand in the arrays, whatever its capacities, it finds the machine's next transition or none, where the
--- words are those of the marking and `spare` is the set of the contexts below their capacity in it. Such is `net_with net capacities` (proofs/Nets).
+-- sets are those of the marking and `spare` is the set of the contexts below their capacity in it. Such is `net_with net capacities` (proofs/Nets).
 pub record Chooses (net : Net) (s : Marked) (spare : ℕ) (r : Option ℕ) : Type 0 where
   pub passing : Passing r net s spare
   pub fires :

@@ -2,16 +2,11 @@
 //! rules stand in docs/MACHINE.md, "Transitions" and "Firing".
 #![tactic(auto)]
 
+mod marked;
 mod net;
+mod padding;
 mod table;
 
+pub use marked::Marked;
 pub use net::Net;
-
-/// The marked places of a net, those that hold a token: a word for each kind of place, the set of
-/// its contexts.
-#[derive(Clone, Copy, Debug, PartialEq, Eq)]
-pub struct Marked {
-    pub context: u64,
-    pub pr: u64,
-    pub pr_not: u64,
-}
+pub use padding::padded;

@@ -1,14 +1,15 @@
-//! A composed net, and which of its transitions fires next. The walk goes by the words of a marking
-//! and the set of the contexts below their capacity: no count and no capacity is within its reach.
-ghost use Rattle.std.specs.Prelude.{◌≡◌, ◌≤◌, false, length, take};
+//! A composed net, and which of its transitions fires next. The walk goes by the marked places and
+//! the set of the contexts below their capacity: no count and no capacity is within its reach.
+ghost use Rattle.std.specs.Prelude.{◌≡◌, ◌≤◌, false};
 ghost use Rattle.model.specs.Sets.{any};
 ghost use Rattle.model.specs.Relations.{misfit};
 ghost use Rattle.net.specs.Tables.{relations_in, StoresAll};
 
-use crate::Marked;
 use crate::table::Table;
+use crate::{Marked, padded};
 use relations::CheckedList;
-use transitions::Arcs;
+use sets::Set;
+use transitions::{Arcs, Priority};
 
 /// A net of at most 48 contexts and 96 relations, with its transitions; it knows no capacities.
 #[derive(Clone, Copy, Debug)]
@@ -24,26 +25,15 @@ pub struct Net {
     pub ghost stores: { StoresAll table contexts (relations_in relation_count relations) },
 }
 
-/// The triples, and zeros behind them.
-fn kept(triples: &[[u8; 3]]) -> [[u8; 3]; 96]
-    requires { length triples.now ≤ 96 }
-    ensures { take (length triples.now) result ≡ triples.now }
-{
-    let mut kept = [[0; 3]; 96];
-    kept[..triples.len()].copy_from_slice(triples);
-    kept
-}
-
 impl Net {
-    ghost use Rattle.std.specs.Prelude.{◌≡◌, ◌*◌, ◌<◌, [], length, get_or};
-    ghost use Rattle.model.specs.Sets.{number};
+    ghost use Rattle.std.specs.Prelude.{◌<◌, [], length, get_or};
     ghost use Rattle.model.specs.Relations.{size};
     ghost use Rattle.relations.specs.Reading.{relations_of};
     ghost use Rattle.relations.specs.Lists.{net_of};
     ghost use Rattle.net.specs.Tables.{blank};
     ghost use Rattle.net.specs.Nets.{contexts_of, rels_of, transitions_in, arcs_of};
     ghost use Rattle.transitions.specs.Arcs.{Holds};
-    ghost use Rattle.net.specs.Walks.{movable, FindsOwn, PrefersUrgent, Chooses};
+    ghost use Rattle.net.specs.Walks.{ready_row, FindsOwn, PrefersUrgent, Chooses};
 
     /// The net of a checked list, without its capacities.
     pub fn new(list: &CheckedList<'_>) -> Self
@@ -54,7 +44,7 @@ impl Net {
         Net {
             contexts: list.contexts(),
             relation_count: triples.len(),
-            relations: kept(triples),
+            relations: padded(triples, [0; 3]),
             table: Table::of(list),
         }
     }
@@ -87,7 +77,7 @@ impl Net {
         &self.relations[..self.relation_count]
     }
 
-    /// The sets of transition i; behind the last one, of none.
+    /// The sets of transition i, where it is one of the net.
     #[tactic(auto, using(crate::proofs::Nets::holds_at))]
     pub fn arcs(&self, i: usize) -> Arcs
         requires { i < 192 }
@@ -97,56 +87,57 @@ impl Net {
         self.table.arcs(i)
     }
 
-    /// The contexts whose own transitions may be ready: act(c) takes a token from Pr(c) and needs
-    /// room at c, deac(c) takes one from Pr(¬c) and one from c.
-    fn movable(marked: Marked, spare: u64) -> u64
-        ensures { result ≡ number 64 (movable marked spare) }
+    /// Whether transition i is ready.
+    #[inline(always)]
+    #[tactic(auto, unfolding(crate::specs::Walks::ready_row))]
+    fn is_ready(&self, i: usize, marked: &Marked, spare: Set) -> bool
+        requires { i < 192 }
+        ensures { result ≡ ready_row self.now.table marked.now spare i }
     {
-        sets::union(
-            sets::intersection(marked.pr, spare),
-            sets::intersection(marked.pr_not, marked.context),
-        )
+        marked.passes(&self.table.row(i), spare)
     }
 
     /// The first ready one of the activations and deactivations, act(c) at 2c and deac(c) behind
     /// it. A context where neither may be ready is passed over.
-    fn first_own(&self, marked: Marked, spare: u64) -> Option<usize>
-        ensures { FindsOwn self.now marked spare result }
+    fn first_own(&self, marked: &Marked, spare: Set) -> Option<usize>
+        ensures { FindsOwn self.now marked.now spare result }
     {
-        for c in sets::members(Net::movable(marked, spare), self.contexts) {
+        for c in marked.movable(spare).below(self.contexts).iter() {
             let act = 2 * c;
-            if self.table.ready(act, marked, spare) {
+            if self.is_ready(act, marked, spare) {
                 return Some(act);
             }
             let deac = 2 * c + 1;
-            if self.table.ready(deac, marked, spare) {
+            if self.is_ready(deac, marked, spare) {
                 return Some(deac);
             }
         }
         None
     }
 
-    /// Of the other transitions the first ready one of priority 2, or else the first ready one.
-    fn first_extra(&self, marked: Marked, spare: u64) -> Option<usize>
-        ensures { PrefersUrgent self.now marked spare result }
+    /// Of the other transitions the first ready one of the higher priority, or else the first ready
+    /// one.
+    fn first_extra(&self, marked: &Marked, spare: Set) -> Option<usize>
+        ensures { PrefersUrgent self.now marked.now spare result }
     {
-        let mut low = None;
+        let mut late = None;
         for i in 2 * self.contexts..self.table.count {
-            if !self.table.ready(i, marked, spare) {
+            let row = self.table.row(i);
+            if !marked.passes(&row, spare) {
                 continue;
             }
-            if self.table.is_urgent(i) {
-                return Some(i);
+            match row.priority() {
+                Priority::Urgent => return Some(i),
+                Priority::Late => late = late.or(Some(i)),
             }
-            low = low.or(Some(i));
         }
-        low
+        late
     }
 
-    /// The enabled transition of the lowest number, in the marking that the words show, where
-    /// `spare` holds the contexts below their capacity.
-    pub fn next(&self, marked: Marked, spare: u64) -> Option<usize>
-        ensures { Chooses self.now marked spare result }
+    /// The enabled transition of the lowest number, where these places are marked, and `spare` holds
+    /// the contexts below their capacity.
+    pub fn next(&self, marked: &Marked, spare: Set) -> Option<usize>
+        ensures { Chooses self.now marked.now spare result }
     {
         self.first_own(marked, spare)
             .or_else(|| self.first_extra(marked, spare))

@@ -1,15 +1,18 @@
-//! A net's transitions by number, in nine arrays, and whether one of them is ready.
-ghost use Rattle.std.specs.Prelude.{◌≤◌};
+//! A net's transitions by number, in nine arrays.
+ghost use Rattle.std.specs.Prelude.{◌<◌, ◌≤◌};
 
-use crate::Marked;
 use relations::CheckedList;
-use transitions::{Arcs, Transitions};
+use sets::Set;
+use transitions::{Arcs, Priority, Transitions};
 
-/// The first `count` entries of each array are in use: entry i of each is a set of transition i.
+/// The first `count` entries of each array are in use: entry i of each is the word of a set of
+/// transition i, or its priority.
+// Arrays that `[0; n]` starts are the form given for transition sets; and of most transitions the
+// walk reads three entries alone.
 #[derive(Clone, Copy, Debug)]
 pub struct Table {
     pub count: usize,
-    pub priority: [u8; 192],
+    pub priority: [Priority; 192],
     pub takes_context: [u64; 192],
     pub takes_pr: [u64; 192],
     pub takes_not: [u64; 192],
@@ -21,12 +24,74 @@ pub struct Table {
     ghost few: { count ≤ 192 },
 }
 
+/// One transition of a table. A set is read when it is asked for: of most transitions the walk looks
+/// at three.
+#[derive(Clone, Copy, Debug)]
+pub struct Row<'a> {
+    table: &'a Table,
+    number: usize,
+    ghost inside: { number < 192 },
+}
+
+impl Row<'_> {
+    ghost use Rattle.std.specs.Prelude.{◌≡◌};
+    ghost use Rattle.net.specs.Tables.{arcs_in};
+
+    #[inline(always)]
+    pub fn priority(&self) -> Priority
+        ensures { result ≡ (arcs_in self.now).priority }
+    {
+        self.table.priority[self.number]
+    }
+
+    #[inline(always)]
+    pub fn takes_context(&self) -> Set
+        ensures { result ≡ (arcs_in self.now).takes_context }
+    {
+        Set::of_word(self.table.takes_context[self.number])
+    }
+
+    #[inline(always)]
+    pub fn takes_pr(&self) -> Set
+        ensures { result ≡ (arcs_in self.now).takes_pr }
+    {
+        Set::of_word(self.table.takes_pr[self.number])
+    }
+
+    #[inline(always)]
+    pub fn takes_not(&self) -> Set
+        ensures { result ≡ (arcs_in self.now).takes_not }
+    {
+        Set::of_word(self.table.takes_not[self.number])
+    }
+
+    #[inline(always)]
+    pub fn gives_context(&self) -> Set
+        ensures { result ≡ (arcs_in self.now).gives_context }
+    {
+        Set::of_word(self.table.gives_context[self.number])
+    }
+
+    #[inline(always)]
+    pub fn inhib_context(&self) -> Set
+        ensures { result ≡ (arcs_in self.now).inhib_context }
+    {
+        Set::of_word(self.table.inhib_context[self.number])
+    }
+
+    #[inline(always)]
+    pub fn inhib_pr(&self) -> Set
+        ensures { result ≡ (arcs_in self.now).inhib_pr }
+    {
+        Set::of_word(self.table.inhib_pr[self.number])
+    }
+}
+
 impl Table {
-    ghost use Rattle.std.specs.Prelude.{◌≡◌, ◌<◌, [], leb};
+    ghost use Rattle.std.specs.Prelude.{◌≡◌, ◌<◌, []};
     ghost use Rattle.model.specs.Transitions.{transitions};
     ghost use Rattle.relations.specs.Lists.{net_of};
-    ghost use Rattle.net.specs.Tables.{row, Stores, Joins};
-    ghost use Rattle.net.specs.Walks.{passes_first, passes_last, ready_row};
+    ghost use Rattle.net.specs.Tables.{row, arcs_in, Stores, Joins};
 
     /// No transition.
     pub fn new() -> Self
@@ -34,7 +99,7 @@ impl Table {
     {
         Table {
             count: 0,
-            priority: [0; 192],
+            priority: [Priority::Late; 192],
             takes_context: [0; 192],
             takes_pr: [0; 192],
             takes_not: [0; 192],
@@ -64,15 +129,27 @@ impl Table {
     {
         let i = self.count;
         self.priority[i] = arcs.priority;
-        self.takes_context[i] = arcs.takes_context;
-        self.takes_pr[i] = arcs.takes_pr;
-        self.takes_not[i] = arcs.takes_not;
-        self.gives_context[i] = arcs.gives_context;
-        self.gives_pr[i] = arcs.gives_pr;
-        self.gives_not[i] = arcs.gives_not;
-        self.inhib_context[i] = arcs.inhib_context;
-        self.inhib_pr[i] = arcs.inhib_pr;
+        self.takes_context[i] = arcs.takes_context.word();
+        self.takes_pr[i] = arcs.takes_pr.word();
+        self.takes_not[i] = arcs.takes_not.word();
+        self.gives_context[i] = arcs.gives_context.word();
+        self.gives_pr[i] = arcs.gives_pr.word();
+        self.gives_not[i] = arcs.gives_not.word();
+        self.inhib_context[i] = arcs.inhib_context.word();
+        self.inhib_pr[i] = arcs.inhib_pr.word();
         self.count = i + 1;
+    }
+
+    /// Transition i, to be looked at.
+    #[inline(always)]
+    pub fn row(&self, i: usize) -> Row<'_>
+        requires { i < 192 }
+        ensures { arcs_in result ≡ row self.now i }
+    {
+        Row {
+            table: self,
+            number: i,
+        }
     }
 
     /// Transition i.
@@ -82,53 +159,14 @@ impl Table {
     {
         Arcs {
             priority: self.priority[i],
-            takes_context: self.takes_context[i],
-            takes_pr: self.takes_pr[i],
-            takes_not: self.takes_not[i],
-            gives_context: self.gives_context[i],
-            gives_pr: self.gives_pr[i],
-            gives_not: self.gives_not[i],
-            inhib_context: self.inhib_context[i],
-            inhib_pr: self.inhib_pr[i],
+            takes_context: Set::of_word(self.takes_context[i]),
+            takes_pr: Set::of_word(self.takes_pr[i]),
+            takes_not: Set::of_word(self.takes_not[i]),
+            gives_context: Set::of_word(self.gives_context[i]),
+            gives_pr: Set::of_word(self.gives_pr[i]),
+            gives_not: Set::of_word(self.gives_not[i]),
+            inhib_context: Set::of_word(self.inhib_context[i]),
+            inhib_pr: Set::of_word(self.inhib_pr[i]),
         }
-    }
-
-    /// Whether transition i has the higher of the two priorities.
-    pub fn is_urgent(&self, i: usize) -> bool
-        requires { i < 192 }
-        ensures { result ≡ leb 2 (row self.now i).priority }
-    {
-        2 <= self.priority[i]
-    }
-
-    /// Whether none of the inhibiting contexts of transition i is marked, and the contexts and the
-    /// Pr(¬c) that it takes are.
-    fn passes_first(&self, i: usize, marked: Marked) -> bool
-        requires { i < 192 }
-        ensures { result ≡ passes_first (row self.now i) marked }
-    {
-        sets::disjoint(self.inhib_context[i], marked.context)
-            & sets::subset(self.takes_context[i], marked.context)
-            & sets::subset(self.takes_not[i], marked.pr_not)
-    }
-
-    /// Whether the Pr(c) that it takes are marked, none of its inhibiting ones is, and the contexts
-    /// that it gives without taking them are below their capacity.
-    fn passes_last(&self, i: usize, marked: Marked, spare: u64) -> bool
-        requires { i < 192 }
-        ensures { result ≡ passes_last (row self.now i) marked spare }
-    {
-        let gained = sets::difference(self.gives_context[i], self.takes_context[i]);
-        sets::subset(self.takes_pr[i], marked.pr)
-            & sets::disjoint(self.inhib_pr[i], marked.pr)
-            & sets::subset(gained, spare)
-    }
-
-    /// Whether transition i is ready: the tests that fail most often come first.
-    pub fn ready(&self, i: usize, marked: Marked, spare: u64) -> bool
-        requires { i < 192 }
-        ensures { result ≡ ready_row self.now marked spare i }
-    {
-        self.passes_first(i, marked) && self.passes_last(i, marked, spare)
     }
 }

@@ -1,36 +1,32 @@
 -- One relation more: what it adds to the sets that relations link.
 -- Assumes nothing.
-use Prim.Native.Nat.{ℕ, ◌+◌, ◌/◌, ◌%◌, ◌<◌, ◌≤◌}
+use Prim.Native.Nat.{ℕ, ◌-◌, ◌<◌, ◌≤◌}
 use native.Mathlib.Decide.{ℕ_discrete}
 use native.Mathlib.Omega.{arith}
 use mathlib.Core.Bool.{Bool, true, false, ◌&&◌, ◌||◌, cond}
 use mathlib.Core.Path.{◌≡◌, refl, sym, ap, ap₂, ◌∙◌, subst}
+use mathlib.Core.Logic.{◌≢◌}
 use mathlib.Core.List.{List, [], ◌∷◌, ◌++◌}
 use lib.Dec.{eqb}
-use lib.ListN.{get_or, replicate}
+use lib.ListN.{length, get_or, set, length-set, replicate, get_or-replicate}
+use lib.Seq.{get_or-set_same, get_or-set_other}
 use borrow.Author.Tests.{eq-eqb, eqb-true, ne_eqb}
-use Rattle.sets.specs.Sets.{mark}
-use Rattle.sets.proofs.Laws.{or_false, same_bool}
-use Rattle.sets.proofs.Rows.{rows_none, rows_same, rows_mark}
+use Rattle.sets.specs.Sets.{members, insert}
+use Rattle.std.proofs.Math.Bool.{or-false, and_comm}
+use Rattle.sets.proofs.Laws.{same_bool, inserted}
+use Rattle.model.proofs.Masks.{number_cong}
 use Rattle.model.specs.Sets.{Set, number, empty_set}
 use Rattle.model.specs.Relations.{matches, related, excluded, excludes, last_kind}
 use Rattle.model.specs.declared.Relation.{Relation}
-use Rattle.model.proofs.Tests.{and_both, and_left, and_right}
 use Rattle.relations.specs.declared.kind.Kind.{Kind}
 use Rattle.relations.specs.declared.kind.Kind.TheVariants.{Excludes, Causes, Implies, Requires, Suggests}
 use Rattle.relations.specs.Kinds.{kind_number}
 use Rattle.relations.specs.Reading.{relation}
-use Rattle.relations.specs.Links.{word_of, grid_words, ends, Grid, Linked, marked}
+use Rattle.relations.specs.Links.{row_of, set_at, ends, Grid, Linked, marked}
 use Rattle.relations.proofs.Reading.{any_snoc}
 
 pub eqb_sym : (x y : ℕ) → eqb x y ≡ eqb y x
 eqb_sym x y = same_bool (eqb x y) (eqb y x) (λ e. eq-eqb y x (sym (eqb-true x y e))) (λ e. eq-eqb x y (sym (eqb-true y x e)))
-
-pub and_comm : (a b : Bool) → (a && b) ≡ (b && a)
-and_comm true true = refl
-and_comm true false = refl
-and_comm false true = refl
-and_comm false false = refl
 
 -- two unions, member by member
 or_pairs : (p q m n : Bool) → ((p || m) || (q || n)) ≡ (((p || q) || m) || n)
@@ -50,7 +46,7 @@ module _ (rels : List Relation) (k a b : ℕ) where
   -- at another kind nothing is added, at its own the pair of its ends
   other : (q : ℕ) → (k ≡ q → ⊥) → (x y : ℕ) → related rels q x y ≡ related more q x y
   unfolding matches
-  other q d x y = sym (by_match q x y ∙ rw (ne_eqb k q d) (or_false (related rels q x y)))
+  other q d x y = sym (by_match q x y ∙ rw (ne_eqb k q d) (or-false (related rels q x y)))
 
   own : (q : ℕ) → k ≡ q → (x y : ℕ) → (related rels q x y || (eqb x a && eqb y b)) ≡ related more q x y
   unfolding matches
@@ -64,7 +60,7 @@ module _ (rels : List Relation) (k a b : ℕ) where
       go : Dec (q ≡ excludes) → (ends rels q x y || (eqb q k && eqb x a && eqb y b)) ≡ ends more q x y
       go (yes e) =
           rw (eq-eqb q excludes e, ne_eqb q k (λ f. d (sym f ∙ e)))
-          (or_false (excluded rels x y) ∙ ap₂ (λ (s t : Bool). s || t) (other excludes d x y) (other excludes d y x))
+          (or-false (excluded rels x y) ∙ ap₂ (λ (s t : Bool). s || t) (other excludes d x y) (other excludes d y x))
       go (no f) = rw (ne_eqb q excludes f) (sym (by_match q x y ∙ rw (eqb_sym k q, eqb_sym a x, eqb_sym b y)))
 
   ends_both : k ≡ excludes → (q x y : ℕ) → ((ends rels q x y || (eqb q k && eqb x a && eqb y b)) || (eqb q k && eqb x b && eqb y a)) ≡ ends more q x y
@@ -79,54 +75,93 @@ module _ (rels : List Relation) (k a b : ℕ) where
           ∙ ap₂ (λ (s t : Bool). s || t) (own excludes e x y) (own excludes e y x))
       go (no f) =
           rw (ne_eqb q excludes f, ne_eqb q k (λ g. f (g ∙ e)))
-          (or_false (related rels q x y || false) ∙ or_false (related rels q x y) ∙ other q (λ g. f (sym g ∙ e)) x y)
+          (or-false (related rels q x y || false) ∙ or-false (related rels q x y) ∙ other q (λ g. f (sym g ∙ e)) x y)
 
 -- the grid with b added to the set of a
 abbrev pub add : (k a b : ℕ) → (ℕ → ℕ → Set) → ℕ → ℕ → Set
 add k a b G q x y = G q x y || (eqb q k && eqb x a && eqb y b)
 
--- the set of a word
-pub grid_word : {words : List ℕ} (G : ℕ → ℕ → Set) → Grid words G → (k a : ℕ) → excludes ≤ k → k ≤ last_kind → a < 48 → get_or words (word_of k a) 0 ≡ number 64 (G k a)
-grid_word G has k a f l m =
-    let q : word_of k a / 48 + excludes ≡ k = omega arith in
-    let r : word_of k a % 48 ≡ a = omega arith in
-    has.row (word_of k a) (omega arith) ∙ ap₂ (λ (x y : ℕ). number 64 (G x y)) q r
+-- one set takes one member more
+module _ (G : ℕ → ℕ → Set) (k a b : ℕ) {sets : List (List ℕ)} (has : Grid sets G) (least : excludes ≤ k) (most : k ≤ last_kind) (inside : a < 48) where
+  row : List ℕ
+  row = row_of sets k
+
+  entry : ℕ
+  entry = number 64 (insert b (members (set_at sets k a)))
+
+  -- the row of the kind is the new one, and the others are as they were
+  row_same : row_of (marked sets k a b) k ≡ set row a entry
+  unfolding row entry
+  row_same = get_or-set_same sets (k - excludes) (set row a entry) [] (omega (arith, has.rows))
+
+  row_other : (q : ℕ) → excludes ≤ q → q ≢ k → row_of (marked sets k a b) q ≡ row_of sets q
+  unfolding row entry
+  row_other q l d = get_or-set_other sets (k - excludes) (q - excludes) (set row a entry) [] (λ e. d (omega arith))
+
+  kept : (q x : ℕ) → excludes ≤ q → q ≤ last_kind → x < 48 → (eqb q k && eqb x a) ≡ false → number 64 (G q x) ≡ number 64 (add k a b G q x)
+  kept q x l m h e = number_cong 64 (G q x) (add k a b G q x) (λ y _. sym (ap (λ (t : Bool). G q x y || (t && eqb y b)) e ∙ or-false (G q x y)))
+
+  marked_at : (q x : ℕ) → excludes ≤ q → q ≤ last_kind → x < 48 → set_at (marked sets k a b) q x ≡ number 64 (add k a b G q x)
+  unfolding row entry
+  marked_at q x l m h = go (ℕ_discrete q k) (ℕ_discrete x a)
+    where
+      go : Dec (q ≡ k) → Dec (x ≡ a) → set_at (marked sets k a b) q x ≡ number 64 (add k a b G q x)
+      go (no d) _ =
+          ap (λ (r : List ℕ). get_or r x 0) (row_other q l d) ∙ has.at q x l m h
+          ∙ kept q x l m h (ap (λ (t : Bool). t && eqb x a) (ne_eqb q k d))
+      go (yes e) (no d) =
+          ap (λ (j : ℕ). set_at (marked sets k a b) j x) e ∙ ap (λ (r : List ℕ). get_or r x 0) row_same
+          ∙ get_or-set_other row a x entry 0 d ∙ has.at k x least most h
+          ∙ ap (λ (j : ℕ). number 64 (G j x)) (sym e)
+          ∙ kept q x l m h (rw (eq-eqb q k e) (ne_eqb x a d))
+      go (yes e) (yes f) =
+          ap₂ (λ (i j : ℕ). set_at (marked sets k a b) i j) e f ∙ ap (λ (r : List ℕ). get_or r a 0) row_same
+          ∙ get_or-set_same row a entry 0 (subst (λ (n : ℕ). a < n) (sym (has.row k least most)) inside)
+          ∙ inserted 64 (G k a) (has.at k a least most inside) b refl
+          ∙ number_cong 64 (insert b (G k a)) (add k a b G q x) (λ y _. rw (e, f, eq-eqb k k refl, eq-eqb a a refl) refl)
+
+  grid_add : Grid (marked sets k a b) (add k a b G)
+  unfolding row entry
+  grid_add =
+      record {
+        rows = length-set sets (k - excludes) (set row a entry) ∙ has.rows;
+        row = λ q l m. go q l m (ℕ_discrete q k);
+        at = marked_at;
+      }
+    where
+      go : (q : ℕ) → excludes ≤ q → q ≤ last_kind → Dec (q ≡ k) → length (row_of (marked sets k a b) q) ≡ 48
+      go q l m (no d) = ap length (row_other q l d) ∙ has.row q l m
+      go q l m (yes e) = ap (λ (j : ℕ). length (row_of (marked sets k a b) j)) e ∙ ap length row_same ∙ length-set row a entry ∙ has.row k least most
 
 -- the same sets by another name
-grid_same : {words : List ℕ} (F G : ℕ → ℕ → Set) → Grid words F → ((q x y : ℕ) → F q x y ≡ G q x y) → Grid words G
-grid_same F G has e = rows_same 64 grid_words (λ i. F (i / 48 + excludes) (i % 48)) (λ i. G (i / 48 + excludes) (i % 48)) has (λ i _ y _. e (i / 48 + excludes) (i % 48) y)
+grid_same : {sets : List (List ℕ)} (F G : ℕ → ℕ → Set) → Grid sets F → ((q x y : ℕ) → F q x y ≡ G q x y) → Grid sets G
+grid_same F G has e =
+    record { rows = has.rows; row = has.row; at = λ k a l m h. has.at k a l m h ∙ number_cong 64 (F k a) (G k a) (λ y _. e k a y) }
 
--- a word is that of its kind and its context alone
-one_word : (i k a : ℕ) → excludes ≤ k → a < 48 → eqb i (word_of k a) ≡ (eqb (i / 48 + excludes) k && eqb (i % 48) a)
-one_word i k a f m =
-    same_bool (eqb i (word_of k a)) (eqb (i / 48 + excludes) k && eqb (i % 48) a)
-    (λ e. let x = eqb-true i (word_of k a) e in and_both (eq-eqb (i / 48 + excludes) k (omega arith)) (eq-eqb (i % 48) a (omega arith)))
-    (λ e. let x = eqb-true (i / 48 + excludes) k (and_left (eqb (i / 48 + excludes) k) (eqb (i % 48) a) e) in let y = eqb-true (i % 48) a (and_right (eqb (i / 48 + excludes) k) (eqb (i % 48) a) e) in eq-eqb i (word_of k a) (omega arith))
+pub joined : {sets after : List (List ℕ)} (G : ℕ → ℕ → Set) (k a b : ℕ)
+    → after ≡ marked sets k a b → excludes ≤ k → k ≤ last_kind → a < 48 → Grid sets G → Grid after (add k a b G)
+joined G k a b e l m h has = subst (λ (s : List (List ℕ)). Grid s (add k a b G)) (sym e) (grid_add G k a b has l m h)
 
--- one word takes one member more
-grid_add : {words : List ℕ} (G : ℕ → ℕ → Set) (k a b : ℕ) → Grid words G → excludes ≤ k → k ≤ last_kind → a < 48
-    → Grid (marked words k a b) (add k a b G)
-grid_add G k a b has f l m =
-    let F : ℕ → Set = λ i. G (i / 48 + excludes) (i % 48) in
-    rows_same 64 grid_words (mark (word_of k a) b F) (λ i. add k a b G (i / 48 + excludes) (i % 48)) (rows_mark 64 grid_words F has (word_of k a) b _ (omega arith) refl)
-    (λ i _ y _. ap (λ (t : Bool). F i y || (t && eqb y b)) (one_word i k a f m))
-
-pub joined : {words after : List ℕ} (G : ℕ → ℕ → Set) (k a b : ℕ)
-    → after ≡ marked words k a b → excludes ≤ k → k ≤ last_kind → a < 48 → Grid words G → Grid after (add k a b G)
-joined G k a b e f l m has = subst (λ (w : List ℕ). Grid w (add k a b G)) (sym e) (grid_add G k a b has f l m)
-
-module _ (rels : List Relation) (k a b : ℕ) {words : List ℕ} where
-  pub linked_plain : (k ≡ excludes → ⊥) → Grid words (add k a b (ends rels)) → Linked (rels ++ (relation k a b ∷ [])) words
+module _ (rels : List Relation) (k a b : ℕ) {sets : List (List ℕ)} where
+  pub linked_plain : (k ≡ excludes → ⊥) → Grid sets (add k a b (ends rels)) → Linked (rels ++ (relation k a b ∷ [])) sets
   linked_plain d has = grid_same (add k a b (ends rels)) (ends (rels ++ (relation k a b ∷ []))) has (ends_other rels k a b d)
 
-  pub linked_exclusion : k ≡ excludes → Grid words (add k b a (add k a b (ends rels))) → Linked (rels ++ (relation k a b ∷ [])) words
+  pub linked_exclusion : k ≡ excludes → Grid sets (add k b a (add k a b (ends rels))) → Linked (rels ++ (relation k a b ∷ [])) sets
   linked_exclusion e has = grid_same (add k b a (add k a b (ends rels))) (ends (rels ++ (relation k a b ∷ []))) has (ends_both rels k a b e)
 
 -- no relation links anything
-pub linked_none : Linked [] (replicate grid_words 0)
+pub linked_none : (none : ℕ) → none ≡ number 64 empty_set → Linked [] (replicate last_kind (replicate 48 none))
 unfolding ends excluded related
-linked_none = rows_same 64 grid_words (λ i. empty_set) (λ i. ends [] (i / 48 + excludes) (i % 48)) (rows_none 64 grid_words) (λ i _ y _. empty (eqb (i / 48 + excludes) excludes) y)
+linked_none none e =
+    record {
+      rows = refl;
+      row = λ k l m. ap length (row k l m);
+      at = λ k a l m h. ap (λ (r : List ℕ). get_or r a 0) (row k l m) ∙ get_or-replicate 48 a none 0 h ∙ e ∙ number_cong 64 empty_set (ends [] k a) (λ y _. empty (eqb k excludes) y);
+    }
   where
+    row : (k : ℕ) → excludes ≤ k → k ≤ last_kind → row_of (replicate last_kind (replicate 48 none)) k ≡ replicate 48 none
+    row k l m = get_or-replicate last_kind (k - excludes) (replicate 48 none) [] (omega arith)
+
     empty : (t : Bool) (y : ℕ) → false ≡ cond {A = Set} t (λ b. false) (λ b. false) y
     empty true y = refl
     empty false y = refl

@@ -6,7 +6,7 @@ use Rattle.std.proofs.lemmas.List.Folds.{list_any-append, list_any_at}
 use Rattle.std.specs.List.{list_any}
 use borrow.Author.Tests.{le-ltb, lt-leb, ne_eqb}
 use Rattle.std.specs.Simd.{first_chunks}
-use Rattle.sets.proofs.Laws.{or_false}
+use Rattle.std.proofs.Math.Bool.{or-false}
 use Rattle.model.specs.Sets.{any}
 use Rattle.model.specs.Relations.{misfit, excludes, last_kind}
 use Rattle.model.specs.declared.Relation.{Relation}
@@ -40,7 +40,7 @@ any_relations n = any_map (misfit n)
 
 -- a test of a list that grows at its end
 pub any_snoc : (f : Relation → Bool) (xs : List Relation) (x : Relation) → any f (xs ++ (x ∷ [])) ≡ (any f xs || f x)
-any_snoc f xs x = list_any-append f xs (x ∷ []) ∙ ap (λ (b : Bool). any f xs || b) (or_false (f x))
+any_snoc f xs x = list_any-append f xs (x ∷ []) ∙ ap (λ (b : Bool). any f xs || b) (or-false (f x))
 
 -- one relation more
 pub one_more : (i : ℕ) (triples : List (List ℕ)) → i < length triples
@@ -50,11 +50,9 @@ one_more i triples inside =
 
 -- a relation of a list of which none is a misfit
 pub fits_at : (n : ℕ) (triples : List (List ℕ)) → any (misfit n) (relations_of triples) ≡ false
-    → (i : ℕ) → i < length triples → Fitting n (relation_from (get_or triples i []))
+    → (i : ℕ) → i < length triples → misfit n (relation_from (get_or triples i [])) ≡ false
 fits_at n triples e i inside =
-    let r = relation_from (get_or triples i []) in
-    fitting n r
-    (not_true (misfit n r) (λ t. not_both (list_any (misfits_triple n) triples) (list_any_at (misfits_triple n) triples i [] inside t) (sym (any_relations n triples) ∙ e)))
+    not_true (misfit n (relation_from (get_or triples i []))) (λ t. not_both (list_any (misfits_triple n) triples) (list_any_at (misfits_triple n) triples i [] inside t) (sym (any_relations n triples) ∙ e))
 
 -- what fits n contexts fits more
 misfit_wider : (n m : ℕ) → n ≤ m → (r : Relation) → misfit n r ≡ false → misfit m r ≡ false

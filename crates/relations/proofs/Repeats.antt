@@ -7,13 +7,14 @@ use mathlib.Core.Path.{◌≡◌, refl, sym, ap, ap₂, ◌∙◌}
 use mathlib.Core.List.{List, [], ◌∷◌, ◌++◌}
 use lib.Dec.{eqb}
 use borrow.Author.Tests.{ne_eqb}
-use Rattle.sets.proofs.Laws.{or_false}
+use Rattle.std.proofs.Math.Bool.{or-false, and_comm}
+use Rattle.std.proofs.lemmas.Bool.{false≢true}
 use Rattle.model.specs.Sets.{any}
 use Rattle.model.specs.declared.Relation.{Relation}
 use Rattle.model.specs.Relations.{same, matches, related, excluded, excludes, repeats, repeats_after}
 use Rattle.relations.specs.Reading.{relation}
 use Rattle.relations.specs.Links.{ends}
-use Rattle.relations.proofs.Linking.{eqb_sym, and_comm}
+use Rattle.relations.proofs.Linking.{eqb_sym}
 
 -- tests that agree at each relation, and a test that is one of two
 any_same : (f g : Relation → Bool) → ((s : Relation) → f s ≡ g s) → (rels : List Relation) → any f rels ≡ any g rels
@@ -40,7 +41,7 @@ module _ (k a b : ℕ) where
   unfolding related same matches
   same_plain d rels =
       any_same (same (relation k a b)) (matches k a b)
-      (λ s. rw (ne_eqb k excludes d, eqb_sym k s.kind, eqb_sym a s.a, eqb_sym b s.b) (or_false (eqb s.kind k && eqb s.a a && eqb s.b b)))
+      (λ s. rw (ne_eqb k excludes d, eqb_sym k s.kind, eqb_sym a s.a, eqb_sym b s.b) (or-false (eqb s.kind k && eqb s.a a && eqb s.b b)))
       rels
 
 -- an exclusion is the same as one with its ends in either order
@@ -53,7 +54,7 @@ same_exclusion a b rels =
     rels
     ∙ any_either (matches excludes a b) (matches excludes b a) rels
 
--- in either case, where its second end is in the word of its kind and first end
+-- in either case, where its second end is in the set of its kind and first end
 pub same_linked : (k a b : ℕ) (rels : List Relation) → ends rels k a b ≡ any (same (relation k a b)) rels
 unfolding ends
 same_linked k a b rels = go (ℕ_discrete k excludes)
@@ -76,6 +77,20 @@ after_snoc earlier [] r = refl
 after_snoc earlier (s ∷ rels) r =
     ap (λ (t : Bool). any (same s) earlier || t) (after_snoc (s ∷ earlier) rels r)
     ∙ or_late (any (same s) earlier) (repeats_after (s ∷ earlier) rels) (same r s) (any (same r) earlier) (any (same r) rels)
+
+-- a relation repeated among the first ones is one repeated among all
+after_longer : (earlier rels more : List Relation) → repeats_after earlier rels ≡ true → repeats_after earlier (rels ++ more) ≡ true
+unfolding repeats_after
+after_longer earlier [] more e = absurd (false≢true e)
+after_longer earlier (s ∷ rels) more e = go (any (same s) earlier) (after_longer (s ∷ earlier) rels more) e
+  where
+    go : (b : Bool) → (repeats_after (s ∷ earlier) rels ≡ true → repeats_after (s ∷ earlier) (rels ++ more) ≡ true)
+        → (b || repeats_after (s ∷ earlier) rels) ≡ true → (b || repeats_after (s ∷ earlier) (rels ++ more)) ≡ true
+    go true longer f = refl
+    go false longer f = longer f
+
+pub repeats_longer : (rels more : List Relation) → repeats rels ≡ true → repeats (rels ++ more) ≡ true
+repeats_longer rels more e = after_longer [] rels more e
 
 -- one relation more
 pub repeats_more : (rels : List Relation) (r : Relation) → repeats (rels ++ (r ∷ [])) ≡ (repeats rels || any (same r) rels)

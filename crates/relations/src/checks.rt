@@ -1,10 +1,9 @@
 //! The checks of a list, each over the whole of it: its sizes, its capacities, its relations.
 ghost use Rattle.std.specs.Prelude.{◌≡◌};
 ghost use Rattle.std.specs.List.{list_any};
-ghost use Rattle.model.specs.Sets.{any};
-ghost use Rattle.model.specs.Relations.{has_zero, misfit};
-ghost use Rattle.model.specs.Image.{edition_1, relation_from, bad_sizes};
-ghost use Rattle.relations.specs.Reading.{relations_of, misfits_triple};
+ghost use Rattle.model.specs.Relations.{has_zero};
+ghost use Rattle.model.specs.Image.{edition_1, bad_sizes};
+ghost use Rattle.relations.specs.Reading.{misfits_triple};
 
 use crate::kind::Kind;
 
@@ -28,9 +27,9 @@ pub(crate) fn has_zero(capacities: &[u8]) -> bool
     capacities.contains(&0)
 }
 
-// Whether a relation of three bytes has no kind, an end that is no context, or equal ends.
+// Whether the relation of three bytes has no kind, an end that is no context, or equal ends.
 #[tactic(auto, unfolding(model::specs::Relations::misfit))]
-fn misfits_triple(triple: [u8; 3], contexts: usize) -> bool
+fn is_misfit(triple: [u8; 3], contexts: usize) -> bool
     ensures { result ≡ misfits_triple contexts triple }
 {
     let [kind, source, target] = triple;
@@ -38,18 +37,9 @@ fn misfits_triple(triple: [u8; 3], contexts: usize) -> bool
     Kind::try_from(kind).is_err() || source >= contexts || target >= contexts || source == target
 }
 
-fn any_misfits(triples: &[[u8; 3]], contexts: usize) -> bool
+/// Whether a relation does not fit so many contexts.
+pub(crate) fn has_misfit(triples: &[[u8; 3]], contexts: usize) -> bool
     ensures { result ≡ list_any (misfits_triple contexts) triples.now }
 {
-    triples
-        .iter()
-        .any(|&triple| misfits_triple(triple, contexts))
-}
-
-/// Whether a relation does not fit so many contexts.
-#[tactic(auto, using(crate::proofs::Reading::any_relations))]
-pub(crate) fn misfits(triples: &[[u8; 3]], contexts: usize) -> bool
-    ensures { result ≡ any (misfit contexts) (relations_of triples.now) }
-{
-    any_misfits(triples, contexts)
+    triples.iter().any(|&triple| is_misfit(triple, contexts))
 }

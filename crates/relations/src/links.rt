@@ -1,86 +1,83 @@
 //! What relations link: for each kind and context the contexts at the other ends.
-ghost use Rattle.std.specs.Prelude.{◌≡◌, false, [], ◌<◌, get_or};
+ghost use Rattle.std.specs.Prelude.{◌≡◌, false, ◌<◌, ◌-◌};
 ghost use Rattle.model.specs.Sets.{any};
 ghost use Rattle.model.specs.Relations.{misfit, repeats};
 ghost use Rattle.relations.specs.Kinds.{kind_number};
-ghost use Rattle.relations.specs.Reading.{relation, relations_of};
-ghost use Rattle.relations.specs.Links.{word_of, Linked, marked, LinksOneMore, TellsRepeated};
+ghost use Rattle.relations.specs.Reading.{relation_of, relations_of};
+ghost use Rattle.relations.specs.Links.{set_at, Linked, marked, LinksOneMore, TellsRepeated};
 
 use crate::kind::Kind;
+use crate::link::Link;
+use sets::Set;
 
-/// For each kind a row of words, in it for each context the set of those that it is linked with.
+/// For each kind, and in it for each context, the set of those that it is linked with.
 #[derive(Debug, Drop)]
 pub struct Links {
-    words: [u64; 240],
+    // as words: a struct with a lifetime that holds sets cannot be handed on by `?` yet
+    sets: [[u64; 48]; 5],
 }
 
-// Where the word of a kind and a context stands.
-fn word_of(kind: Kind, context: usize) -> usize
-    requires { context < 48 }
-    ensures place { result ≡ word_of (kind_number kind) context }
-    ensures inside { result < 240 }
+// Where the sets of a kind stand: those of exclusions come first.
+fn row_of(kind: Kind) -> usize
+    ensures row { result ≡ kind_number kind - 1 }
+    ensures inside { result < 5 }
 {
-    48 * (usize::from(kind.number()) - 1) + context
+    usize::from(kind.number()) - 1
 }
 
 impl Links {
-    /// Nothing is linked.
-    pub(crate) fn none() -> Links
-        ensures { Linked [] result.words }
+    ghost use Rattle.std.specs.Prelude.{true, IfSome, IfNone};
+
+    /// What these relations link, where none is the same as an earlier one.
+    #[inline(always)]
+    pub(crate) fn of(triples: &[[u8; 3]]) -> Option<Links>
+        requires { any (misfit 48) (relations_of triples.now) ≡ false }
+        ensures repeated { IfNone result (repeats (relations_of triples.now) ≡ true) }
+        ensures once { IfSome result (λ links. repeats (relations_of triples.now) ≡ false) }
+        ensures linked { IfSome result (λ links. Linked (relations_of triples.now) links.sets) }
     {
-        Links { words: [0; 240] }
+        let mut links = Links { sets: [[0; 48]; 5] };
+        for &triple in triples {
+            let link = Link::of(triple);
+            if links.linked(link) {
+                return None;
+            }
+            links.link(link);
+        }
+        Some(links)
     }
 
-    /// The contexts at the other ends of a context's relations of a kind.
-    pub(crate) fn word(&self, kind: Kind, context: usize) -> u64
+    /// The contexts that relations of a kind link with this one.
+    pub(crate) fn linked_with(&self, kind: Kind, context: usize) -> Set
         requires { context < 48 }
-        ensures { result ≡ get_or self.now.words (word_of (kind_number kind) context) 0 }
+        ensures { result ≡ set_at self.now.sets (kind_number kind) context }
     {
-        self.words[word_of(kind, context)]
+        Set::of_word(self.sets[row_of(kind)][context])
     }
 
-    // b joins the set of a.
-    fn mark(&mut self, kind: Kind, a: usize, b: usize)
-        requires { (a < 48) × (b < 48) }
-        ensures { self.new.words ≡ marked self.old.words (kind_number kind) a b }
+    // The second end of a relation joins the set of its first.
+    fn mark(&mut self, link: Link)
+        ensures { self.new.sets ≡ marked self.old.sets (kind_number link.kind) link.a link.b }
     {
-        let at = word_of(kind, a);
-        self.words[at] = sets::insert(self.words[at], b);
+        let mut linked = self.linked_with(link.kind, link.a);
+        linked.insert(link.b);
+        self.sets[row_of(link.kind)][link.a] = linked.word();
     }
 
     // One relation more: an exclusion links both ways.
-    fn link(&mut self, kind: Kind, a: usize, b: usize)
-        requires { (a < 48) × (b < 48) }
-        ensures { LinksOneMore (relation (kind_number kind) a b) self.old.words self.new.words }
+    fn link(&mut self, link: Link)
+        ensures { LinksOneMore (relation_of link) self.old.sets self.new.sets }
     {
-        self.mark(kind, a, b);
-        if kind == Kind::Excludes {
-            self.mark(kind, b, a);
+        self.mark(link);
+        if link.kind == Kind::Excludes {
+            self.mark(link.exchanged());
         }
     }
 
     // Whether a relation links what an earlier one links already.
-    fn linked(&self, kind: Kind, a: usize, b: usize) -> bool
-        requires { (a < 48) × (b < 48) }
-        ensures { TellsRepeated (relation (kind_number kind) a b) self.now.words result }
+    fn linked(&self, link: Link) -> bool
+        ensures { TellsRepeated (relation_of link) self.now.sets result }
     {
-        sets::member(self.word(kind, a), b)
-    }
-
-    /// Links all of these relations, and answers whether one is the same as an earlier one.
-    pub(crate) fn link_all(&mut self, triples: &[[u8; 3]]) -> bool
-        requires fits { any (misfit 48) (relations_of triples.now) ≡ false }
-        requires none_linked { Linked [] self.old.words }
-        ensures repeated { result ≡ repeats (relations_of triples.now) }
-        ensures linked { Linked (relations_of triples.now) self.new.words }
-    {
-        let mut repeated = false;
-        for &[kind, a, b] in triples {
-            let kind = Kind::try_from(kind).unwrap();
-            let (a, b) = (usize::from(a), usize::from(b));
-            repeated |= self.linked(kind, a, b);
-            self.link(kind, a, b);
-        }
-        repeated
+        self.linked_with(link.kind, link.a).contains(link.b)
     }
 }

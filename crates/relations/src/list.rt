@@ -11,6 +11,7 @@ use crate::checks;
 use crate::kind::Kind;
 use crate::links::Links;
 use model::Refusal;
+use sets::Set;
 
 /// The capacities and the relations of a net, and what these link.
 #[derive(Debug, Drop)]
@@ -22,7 +23,7 @@ pub struct CheckedList<'a> {
     pub ghost no_zero: { has_zero capacities.now ≡ false },
     pub ghost fits: { any (misfit (length capacities.now)) (relations_of relations.now) ≡ false },
     pub ghost once: { repeats (relations_of relations.now) ≡ false },
-    ghost linked: { Linked (relations_of relations.now) links.words } by { Prim.hlevel props },
+    ghost linked: { Linked (relations_of relations.now) links.sets } by { Prim.hlevel props },
 }
 
 impl<'a> CheckedList<'a> {
@@ -36,7 +37,7 @@ impl<'a> CheckedList<'a> {
     ghost use Rattle.relations.specs.Lists.{net_of, given_checks};
 
     /// The list of these capacities and of these relations, three bytes each.
-    #[tactic(auto, using(crate::proofs::Lists::verdict_is, crate::proofs::Reading::relations_read))]
+    #[tactic(auto, using(crate::proofs::Lists::verdict_is, crate::proofs::Lists::fitting, crate::proofs::Lists::fits_most, crate::proofs::Reading::relations_read))]
     #[inline(always)]
     pub fn new(capacities: &'a [u8], relations: &'a [u8]) -> Result<Self, Refusal>
         ensures verdict { verdict_of result ≡ first_refusal (given_checks capacities.now relations.now) }
@@ -49,13 +50,10 @@ impl<'a> CheckedList<'a> {
         if checks::has_zero(capacities) {
             return Err(Refusal::ZeroCapacity);
         }
-        if checks::misfits(triples, capacities.len()) {
+        if checks::has_misfit(triples, capacities.len()) {
             return Err(Refusal::WrongRelation);
         }
-        let mut links = Links::none();
-        if links.link_all(triples) {
-            return Err(Refusal::RepeatedRelation);
-        }
+        let links = Links::of(triples).ok_or(Refusal::RepeatedRelation)?;
         Ok(CheckedList {
             capacities,
             relations: triples,
@@ -89,12 +87,12 @@ impl<'a> CheckedList<'a> {
         self.relations
     }
 
-    /// The contexts at the other ends of a context's relations of a kind, as a word. An exclusion
-    /// links both of its ends.
-    pub fn linked(&self, kind: Kind, context: usize) -> u64
+    /// The contexts at the other ends of a context's relations of a kind. An exclusion links
+    /// both of its ends.
+    pub fn linked(&self, kind: Kind, context: usize) -> Set
         requires { context < 48 }
         ensures { result ≡ number 64 (ends (net_of self.now).rels (kind_number kind) context) }
     {
-        self.links.word(kind, context)
+        self.links.linked_with(kind, context)
     }
 }

@@ -1,12 +1,12 @@
 -- A request's verdicts before and after its step, and what it comes to.
 -- Assumes nothing.
 use Prim.Native.Nat.{ℕ}
-use mathlib.Core.Bool.{Bool}
+use mathlib.Core.Bool.{Bool, true, false, cond, true≢false}
 use mathlib.Core.Path.{◌≡◌, refl, sym, ap, ap₂, subst, ◌∙◌}
 use mathlib.Core.List.{List}
 use native.Mathlib.Omega.{arith}
 use lib.ListN.{length}
-use Rattle.model.specs.Refusals.{first_refusal}
+use Rattle.model.specs.Refusals.{first_refusal, is_granted}
 use Rattle.model.specs.Relations.{size}
 use Rattle.model.specs.Relations as model
 use Rattle.model.specs.Firing.{Marking, Outcome, clear, fire_until_quiet, step_limit}
@@ -24,12 +24,12 @@ use Rattle.step.specs.declared.places.Places.{Places}
 use Rattle.step.specs.declared.places.Stepped.{Stepped}
 use Rattle.requests.specs.Judges.{tests_before, tests_after, told, Judges}
 
-module _ (net : Net) (caps counts : List ℕ) (r : Request) (long : length caps ≡ 48) {n : ℕ} (n_is : n ≡ net.contexts) where
+module _ (net : Net) (caps counts : List ℕ) (r : Request) (long : length caps ≡ 48) where
   abbrev whole : model.Net
   whole = net_with net caps
 
-  size_is : size whole ≡ n
-  size_is = size_with net caps (omega (arith, net.few_contexts)) ∙ sym n_is
+  size_is : size whole ≡ net.contexts
+  size_is = size_with net caps (omega (arith, net.few_contexts))
 
   -- what a request comes to, by the verdict before its step
   abbrev effect_by : Verdict → Effect
@@ -41,22 +41,30 @@ module _ (net : Net) (caps counts : List ℕ) (r : Request) (long : length caps 
         | Refused j ↦ record { answer = without_firings (Refused j); counts = counts_in counts }
       ]
 
-  effect_at : {v : Verdict} → v ≡ first_refusal (tests_before n (counts_in counts) r) → effect whole (counts_in counts) r ≡ effect_by v
+  effect_at : {v : Verdict} → v ≡ first_refusal (tests_before net.contexts (counts_in counts) r) → effect whole (counts_in counts) r ≡ effect_by v
   unfolding effect
   effect_at q = ap effect_by (ap (λ (k : ℕ). first_refusal (tests_before k (counts_in counts) r)) size_is ∙ sym q)
 
   -- a request that is refused before its step
-  pub judges_before : (k : _) → Refused k ≡ first_refusal (tests_before n (counts_in counts) r)
-      → Judges (without_firings (Refused k)) counts (effect whole (counts_in counts) r)
-  judges_before k q =
+  pub judges_before : (v : Verdict) → v ≡ first_refusal (tests_before net.contexts (counts_in counts) r) → is_granted v ≡ false
+      → Judges (without_firings v) counts (effect whole (counts_in counts) r)
+  judges_before Granted q f = absurd (true≢false f)
+  judges_before (Refused k) q f =
       subst (Judges (without_firings (Refused k)) counts) (sym (effect_at q)) (record { answer = refl; counts = refl })
 
   -- a request that makes a step, which ends so
-  module _ (h : Granted ≡ first_refusal (tests_before n (counts_in counts) r)) (p₀ p : Places) {k : ℕ} (k_is : k ≡ net.contexts) (first : Limits k caps p₀) (then : SameLimits p₀ p)
+  module _ {first_verdict : Verdict} (passes : first_verdict ≡ first_refusal (tests_before net.contexts (counts_in counts) r)) (granted : is_granted first_verdict ≡ true) (p₀ p : Places) (first : Limits net.contexts caps p₀) (then : SameLimits p₀ p)
       (start : marking_of p₀ ≡ initial_marking (counts_in counts) r) {e : Stepped} (end : Outcomes e (marking_of p) (step_from net p₀))
       {clear_now : Bool} (clear_is : clear_now ≡ cleared p.contexts (marking_of p)) (after : List ℕ) (after_is : counts_in after ≡ (marking_of p).count) where
     abbrev m : Marking
     m = marking_of p
+
+    h : Granted ≡ first_refusal (tests_before net.contexts (counts_in counts) r)
+    h = go first_verdict granted ∙ passes
+      where
+        go : (v : Verdict) → is_granted v ≡ true → Granted ≡ v
+        go Granted e = refl
+        go (Refused k) e = absurd (true≢false (sym e))
 
     abbrev o : Outcome
     o = step_of whole (counts_in counts) r
@@ -71,7 +79,7 @@ module _ (net : Net) (caps counts : List ℕ) (r : Request) (long : length caps 
 
     clear_due : clear_now ≡ clear whole o.marking
     unfolding clear
-    clear_due = clear_is ∙ ap (λ (k : ℕ). cleared k m) (then.contexts ∙ first.contexts ∙ k_is ∙ sym n_is ∙ sym size_is) ∙ ap (cleared (size whole)) ended.marking
+    clear_due = clear_is ∙ ap (λ (k : ℕ). cleared k m) (then.contexts ∙ first.contexts ∙ sym size_is) ∙ ap (cleared (size whole)) ended.marking
 
     after_due : counts_in after ≡ o.marking.count
     after_due = after_is ∙ ap (λ (x : Marking). x.count) ended.marking
@@ -86,14 +94,13 @@ module _ (net : Net) (caps counts : List ℕ) (r : Request) (long : length caps 
     told_is : (v : Verdict) → told v e ≡ with_firings o v
     told_is v = ap₂ (λ (k j : ℕ). record { verdict = v; firings = k; forced = j }) ended.firings ended.forced
 
-    pub judges_granted : Granted ≡ first_refusal (tests_after e.quiet clear_now r (counts_in counts r.context) (counts_in after r.context))
-        → Judges (told Granted e) after (effect whole (counts_in counts) r)
+    -- it leaves the counts of the step's end where it is granted, and else those from before it
+    pub judges_after : (v : Verdict) → v ≡ first_refusal (tests_after e.quiet clear_now r (counts_in counts r.context) (counts_in after r.context))
+        → (left : List ℕ) → left ≡ cond (is_granted v) after counts → Judges (told v e) left (effect whole (counts_in counts) r)
     unfolding concluded
-    judges_granted q =
-        subst (Judges (told Granted e) after) (sym (effect_with Granted q)) (record { answer = told_is Granted; counts = after_due })
-
-    pub judges_refused : (k : _) → Refused k ≡ first_refusal (tests_after e.quiet clear_now r (counts_in counts r.context) (counts_in after r.context))
-        → Judges (told (Refused k) e) counts (effect whole (counts_in counts) r)
-    unfolding concluded
-    judges_refused k q =
-        subst (Judges (told (Refused k) e) counts) (sym (effect_with (Refused k) q)) (record { answer = told_is (Refused k); counts = refl })
+    judges_after v q left l =
+        subst (Judges (told v e) left) (sym (effect_with v q)) (record { answer = told_is v; counts = ap counts_in l ∙ go (is_granted v) })
+      where
+        go : (b : Bool) → counts_in (cond b after counts) ≡ cond b o.marking.count (counts_in counts)
+        go true = after_due
+        go false = refl

@@ -1,10 +1,10 @@
 //! A request: the checks before its step, the step, the checks when it has ended, and the rollback of one that they refuse.
 #![tactic(auto)]
 
-ghost use Rattle.std.specs.Prelude.{◌≡◌, ◌≤◌};
+ghost use Rattle.std.specs.Prelude.{◌≡◌};
 ghost use Rattle.model.specs.Refusals.{verdict_of, first_refusal};
 ghost use Rattle.model.specs.Machine.{effect};
-ghost use Rattle.net.specs.Nets.{net_with};
+ghost use Rattle.net.specs.Nets.{contexts_of, net_with};
 ghost use Rattle.net.specs.Markings.{counts_in};
 ghost use Rattle.requests.specs.Judges.{tests_before, tests_after, told, Judges};
 
@@ -13,11 +13,10 @@ use net::Net;
 use step::{Places, Stepped};
 
 /// The checks before anything fires: the context is the net's, and active where it is to be deactivated.
-fn check_before(contexts: usize, counts: &[u8; 48], request: Request) -> Result<(), Refusal>
-    requires { contexts ≤ 48 }
-    ensures { verdict_of result ≡ first_refusal (tests_before contexts (counts_in counts.now) request) }
+fn check_before(net: &Net, counts: &[u8; 48], request: Request) -> Result<(), Refusal>
+    ensures { verdict_of result ≡ first_refusal (tests_before (contexts_of net.now) (counts_in counts.now) request) }
 {
-    if contexts <= request.context {
+    if net.contexts() <= request.context {
         return Err(Refusal::NoSuchContext);
     }
     if !request.on && counts[request.context] == 0 {
@@ -65,19 +64,18 @@ pub fn judge(net: &Net, capacities: &[u8; 48], counts: &mut [u8; 48], request: R
     ensures { Judges result counts.new (effect (net_with net.now capacities.now) (counts_in counts.old) request) }
 {
     let c = request.context;
-    if let Err(refusal) = check_before(net.contexts(), counts, request) {
-        return Answer::unfired(Verdict::Refused(refusal));
+    let before = Verdict::from(check_before(net, counts, request));
+    if !before.is_granted() {
+        return Answer::unfired(before);
     }
-    let mut places = Places::at_rest(net.contexts(), capacities, counts);
+    let mut places = Places::at_rest(net, capacities, counts);
     places.begin(request);
     let stepped = places.run(net);
     let clear = places.is_clear();
     let after = *places.counts();
-    match check_after(stepped, clear, request, counts[c], after[c]) {
-        Ok(()) => {
-            *counts = after;
-            answer(Verdict::Granted, stepped)
-        }
-        Err(refusal) => answer(Verdict::Refused(refusal), stepped),
+    let verdict = Verdict::from(check_after(stepped, clear, request, counts[c], after[c]));
+    if verdict.is_granted() {
+        *counts = after;
     }
+    answer(verdict, stepped)
 }

@@ -1,6 +1,6 @@
 -- What was written where a write failed.
 -- Assumes nothing.
-use Rattle.std.proofs.Common.{◌≡◌, ℕ, List, [], ◌∷◌, ◌++◌, take, Bool, true, Option, Result, Ok, Err, OnErr, sym, ap, subst, ◌∙◌, append-nil, if◌then◌else◌}
+use Rattle.std.proofs.Common.{◌≡◌, ℕ, List, [], ◌∷◌, ◌++◌, take, Bool, true, Option, sym, ap, subst, ◌∙◌, append-nil, if◌then◌else◌}
 use lib.Dec.{ltb}
 use Rattle.std.specs.Io.KnownBytes.{Appends}
 use Rattle.model.specs.declared.Call.{Call}
@@ -11,10 +11,6 @@ use Rattle.session.specs.Points.{line_told, Breaks, BreaksEnd}
 use Rattle.session.specs.Sessions.{Stands}
 use Rattle.session.specs.declared.line.Line.{Line}
 use Rattle.session.specs.declared.talking.Session.{Session}
-
-pub err_gives : {A E P Q : Type 0} (r : Result A E) → (P → Q) → OnErr r P → OnErr r Q
-err_gives (Ok x) f p = tt
-err_gives (Err e) f p = f p
 
 pub line_breaks : (old : Session) (call : Option Call) (engine : Engine) (text : List ℕ) (w0 w1 : Option (List ℕ)) → Tells call old.engine engine text
     → call ≡ said_of old.line → (n : ℕ) × Appends w0 w1 (take n text) → Breaks (Stands old) (10 ∷ []) w0 w1

@@ -173,9 +173,8 @@ pub said_minus : (sign c : ℕ) → sign ≡ 45 → c ≤ 255 → said (sign ∷
 unfolding call_text
 said_minus sign c e h = says_call (sign ∷ decimal c) (Deactivate c) (ap (λ (x : ℕ). x ∷ decimal c) e) h
 
-pub said_no_sign : (sign c : ℕ) → (sign ≡ 43 → ⊥) → (sign ≡ 45 → ⊥) → said (sign ∷ decimal c) ≡ None
-said_no_sign sign c a d =
-    says_other sign (decimal c) (λ k h e. ⊎_elim a d) (λ e b. omega (arith, decimal_not_empty c, ap length e))
+pub said_no_sign : (b : ℕ) (text : List ℕ) → 0 < length text → (b ≡ 43 → ⊥) → (b ≡ 45 → ⊥) → said (b ∷ text) ≡ None
+said_no_sign b text p a d = says_other b text (λ k h e. ⊎_elim a d) (λ e s. omega (arith, ap length e))
 
 -- a text that is no number's behind a byte
 pub said_no_number : (b : ℕ) (text : List ℕ) → 0 < length text → Reads text None → said (b ∷ text) ≡ None
@@ -184,6 +183,61 @@ said_no_number b text p t =
 
 pub said_number : (b c : ℕ) (text : List ℕ) → Reads text (Some c) → said (b ∷ decimal c) ≡ said (b ∷ text)
 said_number b c text t = let (h, e) = t.right c refl in ap (λ (l : List ℕ). said (b ∷ l)) (sym e)
+
+-- a text that is no number's behind a byte that is no letter
+said_no_number_behind : (b : ℕ) (text : List ℕ) → (b ≡ 117 → ⊥) → (b ≡ 115 → ⊥) → Reads text None → said (b ∷ text) ≡ None
+said_no_number_behind b [] u s t = said_no_letter b u s
+said_no_number_behind b (d ∷ ds) u s t = said_no_number b (d ∷ ds) (omega arith) t
+
+-- the same of a text by its first byte and the bytes behind it
+abbrev behind : List ℕ → List ℕ
+behind text = take (length text - 1) (drop 1 text)
+
+behind_all : (b : ℕ) (bs : List ℕ) → behind (b ∷ bs) ≡ bs
+behind_all b bs = take_all (length (b ∷ bs) - 1) bs (omega arith)
+
+pub text_u : (text : List ℕ) → 1 ≤ length text → length text < 2 → get_or text 0 0 ≡ 117 → said text ≡ Some Undo
+text_u [] l s e = absurd (omega arith)
+text_u (b ∷ []) l s e = said_u b e
+text_u (b ∷ d ∷ ds) l s e = absurd (omega arith)
+
+pub text_s : (text : List ℕ) → 1 ≤ length text → length text < 2 → get_or text 0 0 ≡ 115 → said text ≡ Some Settle
+text_s [] l s e = absurd (omega arith)
+text_s (b ∷ []) l s e = said_s b e
+text_s (b ∷ d ∷ ds) l s e = absurd (omega arith)
+
+pub text_plus : (text : List ℕ) (c : ℕ) → 1 ≤ length text → get_or text 0 0 ≡ 43 → Reads (behind text) (Some c) → said text ≡ Some (Activate c)
+text_plus [] c l e t = absurd (omega arith)
+text_plus (b ∷ bs) c l e t =
+    let r : Reads bs (Some c) = subst (λ (x : List ℕ). Reads x (Some c)) (behind_all b bs) t in
+    let (h, q) = r.right c refl in
+    sym (said_number b c bs r) ∙ said_plus b c e (omega arith)
+
+pub text_minus : (text : List ℕ) (c : ℕ) → 1 ≤ length text → get_or text 0 0 ≡ 45 → Reads (behind text) (Some c) → said text ≡ Some (Deactivate c)
+text_minus [] c l e t = absurd (omega arith)
+text_minus (b ∷ bs) c l e t =
+    let r : Reads bs (Some c) = subst (λ (x : List ℕ). Reads x (Some c)) (behind_all b bs) t in
+    let (h, q) = r.right c refl in
+    sym (said_number b c bs r) ∙ said_minus b c e (omega arith)
+
+text_no_number : (text : List ℕ) → 1 ≤ length text → (get_or text 0 0 ≡ 117 → ⊥) → (get_or text 0 0 ≡ 115 → ⊥) → Reads (behind text) None → said text ≡ None
+text_no_number [] l u s t = absurd (omega arith)
+text_no_number (b ∷ bs) l u s t = said_no_number_behind b bs u s (subst (λ (x : List ℕ). Reads x None) (behind_all b bs) t)
+
+pub text_plus_none : (text : List ℕ) → 1 ≤ length text → get_or text 0 0 ≡ 43 → Reads (behind text) None → said text ≡ None
+text_plus_none text l e t = text_no_number text l (λ u. omega arith) (λ s. omega arith) t
+
+pub text_minus_none : (text : List ℕ) → 1 ≤ length text → get_or text 0 0 ≡ 45 → Reads (behind text) None → said text ≡ None
+text_minus_none text l e t = text_no_number text l (λ u. omega arith) (λ s. omega arith) t
+
+pub text_no_letter : (text : List ℕ) → 1 ≤ length text → length text < 2 → (get_or text 0 0 ≡ 117 → ⊥) → (get_or text 0 0 ≡ 115 → ⊥) → said text ≡ None
+text_no_letter [] l s u v = absurd (omega arith)
+text_no_letter (b ∷ []) l s u v = said_no_letter b u v
+text_no_letter (b ∷ d ∷ ds) l s u v = absurd (omega arith)
+
+pub text_no_sign : (text : List ℕ) → 2 ≤ length text → (get_or text 0 0 ≡ 43 → ⊥) → (get_or text 0 0 ≡ 45 → ⊥) → said text ≡ None
+text_no_sign [] l a d = absurd (omega arith)
+text_no_sign (b ∷ bs) l a d = said_no_sign b bs (omega arith) a d
 
 -- a call's text has one to four bytes
 text_length : (k : Call) → Askable k → (0 < length (call_text k)) × (length (call_text k) ≤ 4)

@@ -1,6 +1,6 @@
 //! A line, taken in byte by byte in constant memory, and the call that it says.
 ghost use Rattle.std.specs.Prelude.{◌≡◌, ◌∷◌, [], not};
-ghost use Rattle.session.specs.Decimals.{decimal, Reads, Extends};
+ghost use Rattle.session.specs.Decimals.{Reads, Extends};
 ghost use Rattle.session.specs.Calls.{said};
 ghost use Rattle.session.specs.Kept.{Empty, Pushed, Begun, Means};
 
@@ -52,38 +52,16 @@ impl Line {
     }
 }
 
-/// The call whose text this is.
-#[tactic(auto, using(crate::proofs::Spelling::said_nothing, crate::proofs::Spelling::said_no_number, crate::proofs::Spelling::said_number))]
+/// The call whose text this is: a letter alone, or a sign with the context's number behind it.
+#[tactic(auto, using(crate::proofs::Spelling::said_nothing, crate::proofs::Spelling::text_u, crate::proofs::Spelling::text_s, crate::proofs::Spelling::text_plus, crate::proofs::Spelling::text_minus, crate::proofs::Spelling::text_plus_none, crate::proofs::Spelling::text_minus_none, crate::proofs::Spelling::text_no_letter, crate::proofs::Spelling::text_no_sign))]
 fn call_in(text: &[u8]) -> Option<Call>
     ensures { result ≡ said text.now }
 {
-    let (first, digits) = text.split_first()?;
-    if digits.is_empty() {
-        return letter(*first);
-    }
-    request(*first, number(digits)?)
-}
-
-/// The call whose text this one byte is.
-#[tactic(auto, using(crate::proofs::Spelling::said_u, crate::proofs::Spelling::said_s, crate::proofs::Spelling::said_no_letter))]
-fn letter(b: u8) -> Option<Call>
-    ensures { result ≡ said (b ∷ []) }
-{
-    match b {
-        b'u' => Some(Call::Undo),
-        b's' => Some(Call::Settle),
-        _ => None,
-    }
-}
-
-/// The call whose text is this sign with the context's number behind it.
-#[tactic(auto, using(crate::proofs::Spelling::said_plus, crate::proofs::Spelling::said_minus, crate::proofs::Spelling::said_no_sign))]
-fn request(sign: u8, context: u8) -> Option<Call>
-    ensures { result ≡ said (sign ∷ decimal context) }
-{
-    match sign {
-        b'+' => Some(Call::Activate(usize::from(context))),
-        b'-' => Some(Call::Deactivate(usize::from(context))),
+    match text {
+        b"u" => Some(Call::Undo),
+        b"s" => Some(Call::Settle),
+        [b'+', digits @ ..] => Some(Call::Activate(usize::from(number(digits)?))),
+        [b'-', digits @ ..] => Some(Call::Deactivate(usize::from(number(digits)?))),
         _ => None,
     }
 }

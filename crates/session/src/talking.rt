@@ -1,11 +1,12 @@
 //! The talk over a reader and a writer: each line is answered before the next read.
-ghost use Rattle.std.specs.Prelude.{◌≡◌, ◌<◌, ℕ, [], ◌∷◌, length, take, IfOk, IfErr, OnOk, OnErr};
+ghost use Rattle.std.specs.Prelude.{◌≡◌, ◌≢◌, ◌<◌, ℕ, [], ◌∷◌, length, take, IfOk, IfErr, OnOk, OnErr};
 ghost use Rattle.std.specs.Io.{ReadsAtMost};
+ghost use Rattle.std.specs.IoError.{error_kind};
 ghost use Rattle.std.specs.Io.KnownBytes.{Appends, Consumes, IsAtEnd, Keeps};
 ghost use Rattle.engine.specs.View.{state};
 ghost use Rattle.session.specs.Transcripts.{Told, LinesTold, FrontTold, Leaves, Tells};
 ghost use Rattle.session.specs.Points.{Goes, Breaks, Ends, BreaksEnd};
-ghost use Rattle.session.specs.Stops.{IsRead};
+ghost use Rattle.session.specs.Stops.{IsRead, error_of};
 
 use crate::line::Line;
 use crate::text::Text;
@@ -32,12 +33,23 @@ impl fmt::Display for Stop {
 
 impl std::error::Error for Stop {}
 
+impl From<Stop> for io::Error {
+    ghost from_gives = { λ stop error. error ≡ error_of stop };
+
+    fn from(stop: Stop) -> io::Error {
+        match stop {
+            Stop::Read(error) | Stop::Write(error) => error,
+        }
+    }
+}
+
 /// One read, again where a signal interrupts it.
 fn read_some<R: Read>(reader: &mut R, piece: &mut [u8]) -> io::Result<usize>
     ensures bound { ReadsAtMost result piece.new }
     ensures ok { IfOk result (λ n. Consumes (R.remaining reader.old) (R.remaining reader.new) (take n piece.new)) }
     ensures end { IfOk result (λ n. n ≡ 0 → 0 < length piece.old → IsAtEnd (R.remaining reader.new)) }
     ensures err { OnErr result (Keeps (R.remaining reader.old) (R.remaining reader.new)) }
+    ensures retried { IfErr result (λ e. error_kind e ≢ ErrorKind.Interrupted) }
 {
     for _ in 0..u64::MAX {
         match reader.read(piece) {
@@ -53,6 +65,7 @@ fn read_some<R: Read>(reader: &mut R, piece: &mut [u8]) -> io::Result<usize>
 }
 
 /// Writes the text. After an error the writer has a front of it, and nothing else is written.
+// Not std's `write_all`, whose contract says nothing of what was written before an error.
 fn put<W: Write>(writer: &mut W, text: &[u8]) -> io::Result<()>
     ensures ok { OnOk result (Appends (W.contents writer.old) (W.contents writer.new) text.now) }
     ensures err { OnErr result ((n : ℕ) × Appends (W.contents writer.old) (W.contents writer.new) (take n text.now)) }
@@ -87,7 +100,7 @@ fn reply(engine: &mut Engine, call: Option<Call>) -> Text
 }
 
 /// The machine, and the line of the input that has not ended yet.
-#[derive(Drop)]
+#[derive(Debug, Drop)]
 struct Session {
     engine: Engine,
     line: Line,
@@ -144,44 +157,6 @@ impl Session {
 
 const PIECE: usize = 4096;
 
-/// Reads lines to the end of the input, a piece at a time, and answers each before the next read.
-fn converse<R: Read, W: Write>(
-    reader: &mut R,
-    writer: &mut W,
-    engine: Engine,
-    piece: &mut [u8],
-) -> Result<Engine, Stop>
-    requires { 0 < length piece.old }
-
-    ensures told { OnOk result (Told (R.remaining reader.old) (W.contents writer.old) (W.contents writer.new) (state engine [])) }
-    ensures machine { IfOk result (λ left. Leaves (R.remaining reader.old) (state engine []) left) }
-
-    // After a failed read each line that had ended was told its answer; after any error a front of the answers was written.
-    ensures read { IfErr result (λ e. IsRead e → LinesTold (R.remaining reader.old) (R.remaining reader.new) (W.contents writer.old) (W.contents writer.new) (state engine [])) }
-    ensures err { OnErr result (FrontTold (R.remaining reader.old) (R.remaining reader.new) (W.contents writer.old) (W.contents writer.new) (state engine [])) }
-{
-    let mut session = Session {
-        engine,
-        line: Line::new(),
-    };
-    for _ in 0..u64::MAX {
-        let n = match read_some(reader, piece) {
-            Ok(n) => n,
-            Err(error) => return Err(Stop::Read(error)),
-        };
-        if n == 0 {
-            if let Err(error) = session.finish(writer) {
-                return Err(Stop::Write(error));
-            }
-            return Ok(session.engine);
-        }
-        if let Err(error) = session.take(writer, &piece[..n]) {
-            return Err(Stop::Write(error));
-        }
-    }
-    Err(Stop::Read(io::Error::from(ErrorKind::TimedOut)))
-}
-
 /// Reads lines to the end of the input, and answers each before the next read. Memory does not grow with the input, nor with a line.
 pub fn talk<R: Read, W: Write>(
     reader: &mut R,
@@ -194,7 +169,20 @@ pub fn talk<R: Read, W: Write>(
     // After a failed read each line that had ended was told its answer; after any error a front of the answers was written.
     ensures read { IfErr result (λ e. IsRead e → LinesTold (R.remaining reader.old) (R.remaining reader.new) (W.contents writer.old) (W.contents writer.new) (state engine [])) }
     ensures err { OnErr result (FrontTold (R.remaining reader.old) (R.remaining reader.new) (W.contents writer.old) (W.contents writer.new) (state engine [])) }
+    ensures retried { IfErr result (λ e. IsRead e → error_kind (error_of e) ≢ ErrorKind.Interrupted) }
 {
     let mut piece = [0; PIECE];
-    converse(reader, writer, engine, &mut piece)
+    let mut session = Session {
+        engine,
+        line: Line::new(),
+    };
+    for _ in 0..u64::MAX {
+        let n = read_some(reader, &mut piece).map_err(Stop::Read)?;
+        if n == 0 {
+            session.finish(writer).map_err(Stop::Write)?;
+            return Ok(session.engine);
+        }
+        session.take(writer, &piece[..n]).map_err(Stop::Write)?;
+    }
+    Err(Stop::Read(io::Error::from(ErrorKind::TimedOut)))
 }

@@ -1,29 +1,25 @@
 //! The lines of text that answer.
-ghost use Rattle.std.specs.Prelude.{◌≡◌, [], ◌∷◌, ◌++◌, ◌+◌, ◌≤◌, ◌<◌, length, get_or};
+ghost use Rattle.std.specs.Prelude.{◌≡◌, [], ◌++◌, ◌+◌, ◌≤◌, ◌<◌, length, get_or};
 ghost use Rattle.session.specs.Decimals.{decimal};
 ghost use Rattle.session.specs.Calls.{call_text};
 ghost use Rattle.session.specs.Answers.{answer_text, no_call_text, context_text, contexts_text};
 
+use arrayvec::ArrayString;
 use itoa::Buffer;
 use model::{Answer, Call};
 use std::marker::Model;
 
 /// A line of text, built from its start in a fixed buffer. The longest answer has 404 bytes.
 #[derive(Debug, Drop)]
-pub struct Text {
-    bytes: [u8; 512],
-    len: usize,
-}
+pub struct Text(ArrayString<512>);
 
 // Clauses see the bytes of the line.
 impl Model for Text {
-    ghost use Rattle.std.specs.Prelude.{ℕ, ◌≤◌, List, take};
+    ghost use Rattle.std.specs.Prelude.{ℕ, List};
 
     ghost Value = { List ℕ };
 
-    ghost view = { λ t. take t.len t.bytes };
-
-    ghost invariant = { λ t. t.len ≤ 512 };
+    ghost view = { λ t. t.0.bytes };
 }
 
 impl Text {
@@ -34,11 +30,11 @@ impl Text {
         ensures { result ≡ answer_text call answer.verdict answer.firings answer.forced (length counts.now) (λ c. get_or counts.now c 0) }
     {
         let mut text = Text::of_call(call);
-        text.push_number(b' ', usize::from(answer.verdict.number()));
-        text.push_number(b' ', answer.firings);
-        text.push_number(b' ', answer.forced);
+        text.push_number(" ", usize::from(answer.verdict.number()));
+        text.push_number(" ", answer.firings);
+        text.push_number(" ", answer.forced);
         text.push_contexts(counts);
-        text.push(b'\n');
+        text.push_str("\n");
         text
     }
 
@@ -47,23 +43,20 @@ impl Text {
         ensures { result ≡ no_call_text }
     {
         let mut text = Text::new();
-        text.extend_from_slice(b"?\n");
+        text.push_str("?\n");
         text
     }
 
     pub fn as_bytes(&self) -> &[u8]
         ensures { result.now ≡ self.now }
     {
-        &self.bytes[..self.len]
+        self.0.as_str().as_bytes()
     }
 
     fn new() -> Text
         ensures { result ≡ [] }
     {
-        Text {
-            bytes: [0; 512],
-            len: 0,
-        }
+        Text(ArrayString::new())
     }
 
     /// A call's text.
@@ -74,10 +67,10 @@ impl Text {
     {
         let mut text = Text::new();
         match call {
-            Call::Activate(c) => text.push_number(b'+', c),
-            Call::Deactivate(c) => text.push_number(b'-', c),
-            Call::Undo => text.push(b'u'),
-            Call::Settle => text.push(b's'),
+            Call::Activate(c) => text.push_number("+", c),
+            Call::Deactivate(c) => text.push_number("-", c),
+            Call::Undo => text.push_str("u"),
+            Call::Settle => text.push_str("s"),
         }
         text
     }
@@ -89,8 +82,8 @@ impl Text {
         ensures text { self.new ≡ self.old ++ contexts_text (length counts.now) (λ c. get_or counts.now c 0) }
         ensures short { length self.new ≤ length self.old + 336 }
     {
-        for c in 0..counts.len() {
-            self.push_context(c, counts[c]);
+        for (c, count) in counts.iter().enumerate() {
+            self.push_context(c, *count);
         }
     }
 
@@ -105,35 +98,24 @@ impl Text {
         if count == 0 {
             return;
         }
-        self.push_number(b' ', c);
-        self.push_number(b':', usize::from(count));
+        self.push_number(" ", c);
+        self.push_number(":", usize::from(count));
     }
 
     /// A sign and a number.
-    fn push_number(&mut self, sign: u8, number: usize)
-        requires { length self.old ≤ 491 }
-        ensures text { self.new ≡ self.old ++ sign ∷ decimal number }
-        ensures short { length self.new ≤ length self.old + 21 }
+    fn push_number(&mut self, sign: &str, number: usize)
+        requires { length self.old + length sign.now ≤ 492 }
+        ensures text { self.new ≡ self.old ++ (sign.now ++ decimal number) }
+        ensures short { length self.new ≤ length self.old + length sign.now + 20 }
     {
-        self.push(sign);
-        self.extend_from_slice(Buffer::new().format(number).as_bytes());
+        self.push_str(sign);
+        self.push_str(Buffer::new().format(number));
     }
 
-    /// One byte.
-    fn push(&mut self, b: u8)
-        requires { length self.old < 512 }
-        ensures { self.new ≡ self.old ++ b ∷ [] }
+    fn push_str(&mut self, more: &str)
+        requires { length self.old + length more.now ≤ 512 }
+        ensures { self.new ≡ self.old ++ more.now }
     {
-        self.bytes[self.len] = b;
-        self.len += 1;
-    }
-
-    fn extend_from_slice(&mut self, bytes: &[u8])
-        requires { length self.old + length bytes.now ≤ 512 }
-        ensures { self.new ≡ self.old ++ bytes.now }
-    {
-        let end = self.len + bytes.len();
-        self.bytes[self.len..end].copy_from_slice(bytes);
-        self.len = end;
+        self.0.push_str(more);
     }
 }

@@ -9,8 +9,12 @@ use native.Mathlib.Numerals.{add-one}
 use native.Mathlib.Omega.{arith}
 use lib.Dec.{eqb, ltb, eqb-suc-suc, eqb-zero-suc, eqb-suc-zero}
 use lib.Bits.{bit_and, bit_or, and_step, or_step}
+use lib.ListN.{get_or}
 use lib.Pow.{pow_mono, shr-shr, high, low, shl_exact}
-use borrow.Author.Tests.{eq-eqb, eqb-true, ne_eqb, lt-ltb, le-ltb}
+use borrow.Author.Tests.{eq-eqb, eqb-true, lt-ltb, le-ltb, ne_eqb}
+use Rattle.std.specs.Int.{w64, to_le_bytes}
+use Rattle.std.proofs.Math.Bool.{or-false}
+use Rattle.std.proofs.lemmas.Bool.{not_from_false, not-true}
 use Rattle.model.specs.Sets.{Set, empty_set, singleton, bit, from, number, all_below}
 use Rattle.model.proofs.Tests.{not_true, not_both, below_at, below_make}
 use Rattle.model.proofs.Masks.{bit_lt, number_below, number_digit, number_cong}
@@ -167,10 +171,6 @@ byte_word n q p f = number_cong 8 _ _ (λ j l. ap f (sure j))
     sure j = omega (arith, mul_assoc 8 n q)
 
 -- ---- tests over a range
-pub or_false : (a : Bool) → (a || false) ≡ a
-or_false true = refl
-or_false false = refl
-
 pub same_bool : (a b : Bool) → (a ≡ true → b ≡ true) → (b ≡ true → a ≡ true) → a ≡ b
 same_bool true true f g = refl
 same_bool true false f g = sym (f refl)
@@ -202,13 +202,6 @@ and_if : (a b : Bool) → (not a || b) ≡ true → (a && b) ≡ a
 and_if true b e = e
 and_if false b e = refl
 
-is_false : (a : Bool) → a ≡ false → not a ≡ true
-is_false a e = ap not e
-
-not_is : (a : Bool) → not a ≡ true → a ≡ false
-not_is true e = sym e
-not_is false e = refl
-
 pub test_within : (w : ℕ) (f g : Set) → eqb (bit_and (number w f) (number w g)) (number w f) ≡ within w f g
 test_within w f g =
     same_bool _ _
@@ -220,9 +213,9 @@ test_within w f g =
 test_none : (w : ℕ) (f : Set) → eqb (number w f) 0 ≡ all_below w (λ j. not (f j))
 test_none w f =
     same_bool _ _
-    (λ e. below_make w _ (λ j l. is_false (f j)
+    (λ e. below_make w _ (λ j l. not_from_false (f j)
     (sym (members_number w f j l) ∙ ap (λ (m : ℕ). members m j) (eqb-true _ _ e ∙ sym (number_empty w)) ∙ members_number w empty_set j l)))
-    (λ e. eq-eqb _ _ (number_cong w f empty_set (λ j l. not_is (f j) (below_at w _ e j l)) ∙ number_empty w))
+    (λ e. eq-eqb _ _ (number_cong w f empty_set (λ j l. not-true (f j) (below_at w _ e j l)) ∙ number_empty w))
 
 pub test_apart : (w : ℕ) (f g : Set) → eqb (bit_and (number w f) (number w g)) 0 ≡ apart w f g
 test_apart w f g = ap (λ (x : ℕ). eqb x 0) (sym (number_and w f g)) ∙ test_none w (common f g)
@@ -260,6 +253,17 @@ own w a h = sym (number_members w a h)
 
 pub byte_of_word : (w m i : ℕ) → m < 2 ^ w → 8 * i + 8 ≤ w → m / 2 ^ (8 * i) % 256 ≡ byte_of i (members m)
 byte_of_word w m i h l = ap (λ (x : ℕ). x / 2 ^ (8 * i) % 256) (own w m h) ∙ byte_number w i (members m) l
+
+pub bytes_of_word : (m : ℕ) → m < 2 ^ 64 → (i : ℕ) → i < 8 → get_or (to_le_bytes w64 m) i 0 ≡ byte_of i (members m)
+bytes_of_word m h zero l = ap (λ (x : ℕ). x % 256) (sym (div-one m)) ∙ byte_of_word 64 m 0 h (omega arith)
+bytes_of_word m h (suc zero) l = byte_of_word 64 m 1 h (omega arith)
+bytes_of_word m h (suc (suc zero)) l = byte_of_word 64 m 2 h (omega arith)
+bytes_of_word m h (suc (suc (suc zero))) l = byte_of_word 64 m 3 h (omega arith)
+bytes_of_word m h (suc (suc (suc (suc zero)))) l = byte_of_word 64 m 4 h (omega arith)
+bytes_of_word m h (suc (suc (suc (suc (suc zero))))) l = byte_of_word 64 m 5 h (omega arith)
+bytes_of_word m h (suc (suc (suc (suc (suc (suc zero)))))) l = byte_of_word 64 m 6 h (omega arith)
+bytes_of_word m h (suc (suc (suc (suc (suc (suc (suc zero))))))) l = byte_of_word 64 m 7 h (omega arith)
+bytes_of_word m h (suc (suc (suc (suc (suc (suc (suc (suc i)))))))) l = absurd (omega arith)
 
 -- ---- for callers of the functions: what a function says of its words' members, said of the sets that the words are known to hold
 module _ (w : ℕ) {a b : ℕ} (f g : Set) (ha : a ≡ number w f) (hb : b ≡ number w g) where
@@ -325,7 +329,7 @@ at_most_false false false c h = refl
 
 joins : (a b c : Bool) → (b ≡ true → c ≡ true) → ((a && c) || b) ≡ ((a || b) && c)
 joins true true c h = ap (λ (t : Bool). t || true) (h refl) ∙ sym (h refl)
-joins true false c h = or_false c
+joins true false c h = or-false c
 joins false true c h = sym (h refl)
 joins false false c h = refl
 

@@ -8,12 +8,22 @@ use mathlib.Core.Path.{◌≡◌, refl, sym, ap, ◌∙◌, subst}
 use mathlib.Core.Logic.{◌≢◌}
 use mathlib.Core.List.{List}
 use native.Mathlib.Decide.{ℕ_discrete}
-use lib.ListN.{get_or, set, length-set, replicate, length-replicate, get_or-replicate}
+use lib.ListN.{get_or, length, set, length-set, replicate, length-replicate, get_or-replicate}
 use lib.Seq.{get_or-set_same, get_or-set_other}
 use Rattle.model.specs.Sets.{Set, empty_set, number}
 use Rattle.model.proofs.Masks.{number_cong}
-use Rattle.sets.specs.Sets.{members, insert, mark, Rows}
-use Rattle.sets.proofs.Laws.{number_empty, inserted, or_false}
+use Rattle.sets.specs.Sets.{members, insert}
+use Rattle.std.proofs.Math.Bool.{or-false}
+use Rattle.sets.proofs.Laws.{number_empty, inserted}
+
+-- a family of sets, with c added to set a
+abbrev pub mark : ℕ → ℕ → (ℕ → Set) → ℕ → Set
+mark a c F x j = F x j || (eqb x a && eqb j c)
+
+-- a list of n words, of which word x holds the set F x in w digits
+pub record Rows (w n : ℕ) (out : List ℕ) (F : ℕ → Set) : Type 0 where
+  pub count : length out ≡ n
+  pub row : (x : ℕ) → x < n → get_or out x 0 ≡ number w (F x)
 
 module _ (w n : ℕ) where
   pub rows_none : Rows w n (replicate n 0) (λ x. empty_set)
@@ -41,4 +51,4 @@ module _ (w n : ℕ) where
       rows_set F (mark a c F) has a v l
       (inserted w (F a) (has.row a l) c e
       ∙ number_cong w _ _ (λ j b. ap (λ (t : Bool). F a j || (t && eqb j c)) (sym (eq-eqb a a refl))))
-      (λ x h d j b. sym (ap (λ (t : Bool). F x j || (t && eqb j c)) (ne_eqb x a d) ∙ or_false (F x j)))
+      (λ x h d j b. sym (ap (λ (t : Bool). F x j || (t && eqb j c)) (ne_eqb x a d) ∙ or-false (F x j)))

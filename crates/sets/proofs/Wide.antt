@@ -9,11 +9,15 @@ use lib.Dec.{eqb}
 use lib.Arith.{digits_div, digits_mod, digits_lt}
 use lib.ListN.{get_or, set, replicate}
 use borrow.Author.Tests.{eq-eqb, eqb-true}
-use Rattle.model.specs.Sets.{Set, empty_set, number, all_below}
+use Rattle.model.specs.Sets.{Set, empty_set, from, number, all_below}
 use Rattle.model.proofs.Tests.{and_left, and_right, and_both, below_at, below_make}
-use Rattle.sets.specs.Sets.{members, insert, mark, wide, Rows}
+use Rattle.sets.specs.Sets.{members, insert}
 use Rattle.sets.proofs.Laws.{same_bool}
-use Rattle.sets.proofs.Rows.{rows_none, rows_same, rows_mark}
+use Rattle.sets.proofs.Rows.{mark, Rows, rows_none, rows_same, rows_mark}
+
+-- sets that take p words of k digits each, one after the other: word y is word y % p of set y / p
+abbrev pub wide : ℕ → ℕ → (ℕ → Set) → ℕ → Set
+wide k p F y = from (k * (y % p)) (F (y / p))
 
 -- a number in two digits
 module _ (k q : ℕ) {j : ℕ} (h : j < k) where

@@ -1,16 +1,12 @@
 -- The sets in words, each law as the check meets it: over the numbers that the words are, at any width.
 -- Assumes nothing.
-use Prim.Native.Nat.{ℕ, ◌+◌, ◌-◌, ◌/◌, ◌^◌, ◌%◌, ◌*◌, ◌<◌, ◌≤◌}
-use mathlib.Core.Bool.{Bool}
+use Prim.Native.Nat.{ℕ, ◌-◌, ◌^◌, ◌%◌, ◌*◌, ◌<◌}
 use mathlib.Core.Path.{◌≡◌}
-use native.Mathlib.Omega.{arith}
 use lib.Bits.{bit_and, bit_or}
 use lib.Dec.{eqb}
-use lib.Count.{count_trailing_zeros}
 use Rattle.model.specs.Sets.{singleton, number}
-use Rattle.sets.specs.Sets.{members, union, common, minus, insert, remove, within, apart, Least}
+use Rattle.sets.specs.Sets.{members, union, common, minus, insert, remove, within, apart}
 use Rattle.sets.proofs.Laws.{own, or_holds, and_holds, minus_holds, within_holds, apart_holds, single_word}
-use Rattle.sets.proofs.Zeros.{least, least_among}
 
 module _ (w a b : ℕ) (p : a < 2 ^ w) (q : b < 2 ^ w) where
   pub union_word : bit_or a b ≡ number w (union (members a) (members b))
@@ -34,9 +30,6 @@ module _ (w a c s : ℕ) (p : a < 2 ^ w) (q : s ≡ number w (singleton c)) wher
 
   pub without_word : bit_and a (2 ^ w - 1 - s) ≡ number w (remove c (members a))
   without_word = minus_holds w (members a) (singleton c) (own w a p) q
-
-pub least_word : (w m c : ℕ) → Least w (members m) c (c + count_trailing_zeros w (m / 2 ^ c))
-least_word w m c = least_among w (omega arith) (least w m c)
 
 -- at 64 digits, where the check has computed the powers
 pub single_64 : (c : ℕ) → c < 64 → 1 * 2 ^ c % 18446744073709551616 ≡ number 64 (singleton c)

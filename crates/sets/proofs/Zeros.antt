@@ -9,8 +9,14 @@ use lib.Dec.{eqb}
 use lib.Count.{count_trailing_zeros, under}
 use lib.Pow.{shr-shr}
 use Rattle.model.specs.Sets.{Set}
-use Rattle.sets.specs.Sets.{members, Least}
+use Rattle.sets.specs.Sets.{members}
 use Rattle.sets.proofs.Laws.{members_zero, members_suc}
+
+-- r is the least member of f that is at least c, among the numbers below w; w or more where there is none
+pub record LeastFrom (w : ℕ) (f : Set) (c r : ℕ) : Type 0 where
+  pub from_c : c ≤ r
+  pub gap : (j : ℕ) → c ≤ j → j < r → f j ≡ false
+  pub hit : r < w → f r ≡ true
 
 pub zeros_gap : (k q j : ℕ) → j < count_trailing_zeros k q → members q j ≡ false
 unfolding count_trailing_zeros
@@ -39,7 +45,7 @@ unfolding members
 members_shift m c j = ap (λ (x : ℕ). eqb (x % 2) 1) (sym (shr-shr m c j))
 
 -- for any width: what a count of trailing zeros finds in m / 2 ^ c
-pub least : (w m c : ℕ) → Least (c + w) (members m) c (c + count_trailing_zeros w (m / 2 ^ c))
+pub least : (w m c : ℕ) → LeastFrom (c + w) (members m) c (c + count_trailing_zeros w (m / 2 ^ c))
 least w m c =
     let t = count_trailing_zeros w (m / 2 ^ c) in
     record {
@@ -51,5 +57,5 @@ least w m c =
     }
 
 -- among fewer numbers it is the least too
-pub least_among : (v : ℕ) {w : ℕ} {f : Set} {c r : ℕ} → v ≤ w → Least w f c r → Least v f c r
+pub least_among : (v : ℕ) {w : ℕ} {f : Set} {c r : ℕ} → v ≤ w → LeastFrom w f c r → LeastFrom v f c r
 least_among v h l = record { from_c = l.from_c; gap = l.gap; hit = λ k. l.hit (omega arith) }

@@ -1,14 +1,10 @@
--- The members of a set below a limit, one after the other in rising order.
+-- The members of a set, one after the other in rising order.
 -- Assumes nothing.
-use Rattle.std.specs.Prelude.{ℕ, suc, ◌<◌, ◌≤◌, ◌≡◌, true, false, ◌&&◌, leb, ltb, Option, Some, None}
-use Rattle.model.specs.Sets.{Set}
+use Rattle.std.specs.Prelude.{ℕ, ◌<◌, ◌≡◌, false, Option, Some, None}
+use Rattle.model.specs.Sets.{number}
+use Rattle.sets.specs.Sets.{members, remove, Least}
 
--- The next of them, where those below `start` have been passed: the least member that is left, behind which `rest` begins; or none is left.
-abbrev pub GivesNext : Set → (start end : ℕ) → Option ℕ → (rest : ℕ) → Type 0
-GivesNext f start end (Some c) rest =
-    (start ≤ c) × (c < end) × (f c ≡ true) × ((j : ℕ) → start ≤ j → j < c → f j ≡ false) × (rest ≡ suc c)
-GivesNext f start end None rest = ((j : ℕ) → start ≤ j → j < end → f j ≡ false) × (rest ≡ end)
-
--- the members of f from start on and below end
-abbrev pub between : (start end : ℕ) → Set → Set
-between start end f j = f j && leb start j && ltb j end
+-- The next of the members that are left: the least, and it is left no longer; or none is left.
+abbrev pub GivesNext : (before : ℕ) → Option ℕ → (after : ℕ) → Type 0
+GivesNext before (Some c) after = (c < 64) × Least (members before) c × (after ≡ number 64 (remove c (members before)))
+GivesNext before None after = ((j : ℕ) → members before j ≡ false) × (after ≡ before)

@@ -1,7 +1,7 @@
 -- Sets of numbers, and the words that hold them: bit j of a word says whether j is in the set.
 -- `Set`, `singleton` and `number` are the model's; here is what a word adds to them. Nothing depends on a width.
 -- Assumes nothing.
-use Rattle.std.specs.Prelude.{ℕ, ◌*◌, ◌/◌, ◌%◌, ◌^◌, ◌<◌, ◌≤◌, ◌≡◌, Bool, true, false, not, ◌&&◌, ◌||◌, List, eqb, ltb, length, get_or}
+use Rattle.std.specs.Prelude.{ℕ, ◌*◌, ◌/◌, ◌%◌, ◌^◌, ◌<◌, ◌≡◌, Bool, true, false, not, ◌&&◌, ◌||◌, cond, eqb, ltb}
 use Rattle.model.specs.Sets.{Set, singleton, from, number, all_below}
 
 -- the set that a word holds: j where binary digit j is 1
@@ -23,6 +23,14 @@ insert c f = union f (singleton c)
 abbrev pub remove : ℕ → Set → Set
 remove c f = minus f (singleton c)
 
+-- the members of one of the two alone
+abbrev pub differing : Set → Set → Set
+differing f g = union (minus f g) (minus g f)
+
+-- a set with c in it where the test holds, and without it otherwise
+abbrev pub assigned : Set → ℕ → Bool → Set
+assigned f c test j = cond (eqb j c) test (f j)
+
 -- the members of f below n
 abbrev pub upto : ℕ → Set → Set
 upto n f j = ltb j n && f j
@@ -38,21 +46,7 @@ within w f g = all_below w (λ j. not (f j) || g j)
 abbrev pub apart : ℕ → Set → Set → Bool
 apart w f g = all_below w (λ j. not (f j && g j))
 
--- r is the least member of f that is at least c, among the numbers below w; w or more where there is none
-pub record Least (w : ℕ) (f : Set) (c r : ℕ) : Type 0 where
-  pub from_c : c ≤ r
-  pub gap : (j : ℕ) → c ≤ j → j < r → f j ≡ false
-  pub hit : r < w → f r ≡ true
-
--- a family of sets, with c added to set a
-abbrev pub mark : ℕ → ℕ → (ℕ → Set) → ℕ → Set
-mark a c F x j = F x j || (eqb x a && eqb j c)
-
--- a list of n words, of which word x holds the set F x in w digits
-pub record Rows (w n : ℕ) (out : List ℕ) (F : ℕ → Set) : Type 0 where
-  pub count : length out ≡ n
-  pub row : (x : ℕ) → x < n → get_or out x 0 ≡ number w (F x)
-
--- sets that take p words of k digits each, one after the other: word y is word y % p of set y / p
-abbrev pub wide : ℕ → ℕ → (ℕ → Set) → ℕ → Set
-wide k p F y = from (k * (y % p)) (F (y / p))
+-- c is the least member of f
+pub record Least (f : Set) (c : ℕ) : Type 0 where
+  pub hit : f c ≡ true
+  pub gap : (j : ℕ) → j < c → f j ≡ false

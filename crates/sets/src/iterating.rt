@@ -1,39 +1,51 @@
-// The members of a set as an iterator.
-ghost use Rattle.std.specs.Prelude.{◌≡◌, ◌-◌, ◌≤◌};
-ghost use Rattle.std.specs.Iterator.{at_most};
-ghost use Rattle.sets.specs.Sets.{members};
-ghost use Rattle.model.specs.Sets.{number};
-ghost use Rattle.sets.specs.Members.{GivesNext, between};
+//! The members of a set as an iterator.
+ghost use Rattle.std.specs.Prelude.{◌≡◌};
 
-use crate::{member_from, remove};
+use crate::Set;
+use std::marker::Model;
 
-/// The members of a set from `start` on and below `end`, in rising order.
-#[derive(Clone, Copy, Debug)]
+/// The members of a set that are still to come, in rising order.
+#[derive(Clone, Copy, Debug, PartialEq, Eq)]
 pub struct Members {
-    pub set: u64,
-    pub start: usize,
-    pub end: usize,
-    // those members, as a set
-    pub rest: u64,
-    pub ghost narrow: { end ≤ 64 },
-    pub ghost left: { rest ≡ number 64 (between start end (members set)) },
+    left: Set,
+}
+
+// Clauses see the set of the members that are left, as a set is seen.
+impl Model for Members {
+    ghost use Rattle.std.specs.Prelude.{ℕ};
+
+    ghost Value = { ℕ };
+
+    ghost view = { λ m. m.left };
+
+    ghost inverse = { λ m. record { left = m } };
+}
+
+impl Members {
+    /// All members of a set.
+    pub(crate) fn of(set: Set) -> Self
+        ensures { result ≡ set }
+    {
+        Members { left: set }
+    }
 }
 
 impl Iterator for Members {
+    ghost use Rattle.std.specs.Iterator.{at_most};
+    ghost use Rattle.std.specs.List.{count_by};
+    ghost use Rattle.model.specs.Sets.{range};
+    ghost use Rattle.sets.specs.Sets.{members};
+    ghost use Rattle.sets.specs.Members.{GivesNext};
+
     type Item = usize;
 
-    ghost next_gives = { λ s r t. GivesNext (members s.set) s.start s.end r t.start × (t.set ≡ s.set) × (t.end ≡ s.end) };
+    ghost next_gives = { GivesNext };
 
-    ghost remaining = { λ s. at_most (s.end - s.start) };
+    ghost remaining = { λ left. at_most (count_by (members left) (range 0 64)) };
 
     fn next(&mut self) -> Option<usize> {
-        if self.rest != 0 {
-            let c = member_from(self.rest, 0);
-            self.rest = remove(self.rest, c);
-            self.start = c + 1;
-            return Some(c);
-        }
-        self.start = self.end;
-        None
+        let c = self.left.first()?;
+        self.left.remove(c);
+        Some(c)
     }
 }

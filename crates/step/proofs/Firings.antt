@@ -14,7 +14,7 @@ use Rattle.model.specs.Firing.{Marking, holds_token, tokens_after, fire}
 use Rattle.model.proofs.Tests.{and_left, and_right, and_both, imp_use, below_at}
 use Rattle.transitions.specs.declared.Arcs.{Arcs}
 use Rattle.net.specs.Walks.{passes_first, passes_last, passes}
-use Rattle.net.specs.declared.Marked.{Marked}
+use Rattle.net.specs.declared.marked.Marked.{Marked}
 use Rattle.step.specs.Spare.{below}
 use Rattle.step.specs.Places.{marking_of, with_tokens, reading, Movable, Firable}
 use Rattle.step.specs.declared.places.PlaceKind.TheVariants.{Context, Pr, PrNot}

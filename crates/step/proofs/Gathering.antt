@@ -2,21 +2,23 @@
 -- Assumes nothing.
 use Prim.Native.Nat.{ℕ, zero, suc, ◌+◌, ◌-◌, ◌*◌, ◌/◌, ◌%◌, ◌^◌, ◌<◌, ◌≤◌}
 use mathlib.Core.Bool.{Bool, true, false, ◌&&◌}
-use mathlib.Core.Path.{◌≡◌, refl, sym, ap, ap₂, ◌∙◌}
+use mathlib.Core.Path.{◌≡◌, refl, sym, ap, ◌∙◌}
 use mathlib.Core.List.{List, [], ◌∷◌}
 use native.Mathlib.Decide.{ℕ_discrete, dec_lt}
-use native.Mathlib.Nat.{add-zero, div-one}
 use native.Mathlib.Omega.{arith}
-use borrow.Author.Tests.{lt-ltb, le-ltb}
+use borrow.Author.Tests.{le-ltb}
 use lib.Dec.{ltb}
 use lib.ListN.{length, get_or, set, replicate, length-replicate, length-set}
+use Rattle.std.specs.Simd.{first_chunks}
+use Rattle.std.specs.Prelude.{drop}
+use Rattle.std.proofs.lemmas.List.{get_or-take, get_or-drop, get_or_past, length-take-le, length-drop}
 use lib.Pow.{pow_mono}
 use lib.Seq.{get_or-set_same, get_or-set_other}
 use mir.Val.{bool_byte}
 use Rattle.std.proofs.Common.{w32}
 use Rattle.std.specs.Int.{from_le_bytes}
 use Rattle.sets.specs.Sets.{members, upto}
-use Rattle.sets.proofs.Laws.{contained, number_split, number_part, number_narrow}
+use Rattle.sets.proofs.Laws.{contained, number_split}
 use Rattle.model.specs.Sets.{Set, bit, from, number}
 use Rattle.model.proofs.Masks.{bit_lt, number_below, number_cong}
 use Rattle.step.specs.Spare.{below, spare_word}
@@ -55,20 +57,41 @@ flag_is zero h = refl
 flag_is (suc zero) h = refl
 flag_is (suc (suc x)) h = absurd (omega arith)
 
-pub four_flags : (l : List ℕ) (at : ℕ) → Flags l → {p q r s : ℕ} → p ≡ get_or l at 0 → q ≡ get_or l (at + 1) 0 → r ≡ get_or l (at + 2) 0 → s ≡ get_or l (at + 3) 0
-    → from_le_bytes w32 (p ∷ q ∷ r ∷ s ∷ []) * 2113665 / 2097152 % 16 ≡ number 4 (from at (flagged l))
+pub four_flags : (l : List ℕ) → length l ≡ 4 → Flags l → from_le_bytes w32 l * 2113665 / 2097152 % 16 ≡ number 4 (flagged l)
 unfolding number
-four_flags l at fl {p} {q} {r} {s} ep eq er es =
-    let e₀ = ep ∙ one at in
-    let e₁ = eq ∙ one (at + 1) in
-    let e₂ = er ∙ one (at + 2) in
-    let e₃ = es ∙ one (at + 3) in
-    (λ i. from_le_bytes w32 (e₀ i ∷ e₁ i ∷ e₂ i ∷ e₃ i ∷ []) * 2113665 / 2097152 % 16)
-    ∙ four_digits (flagged l at) (flagged l (at + 1)) (flagged l (at + 2)) (flagged l (at + 3))
-    ∙ ap (λ (x : ℕ). bit (flagged l x) + 2 * (bit (flagged l (at + 1)) + 2 * (bit (flagged l (at + 2)) + 2 * (bit (flagged l (at + 3)) + 2 * 0)))) (sym (add-zero at))
-  where
-    one : (c : ℕ) → get_or l c 0 ≡ bit (flagged l c)
-    one c = flag_is (get_or l c 0) (fl c)
+four_flags [] h fl = absurd (omega (arith, h))
+four_flags (p ∷ []) h fl = absurd (omega (arith, h))
+four_flags (p ∷ q ∷ []) h fl = absurd (omega (arith, h))
+four_flags (p ∷ q ∷ r ∷ []) h fl = absurd (omega (arith, h))
+four_flags (p ∷ q ∷ r ∷ s ∷ []) h fl =
+    (λ i. from_le_bytes w32 (flag_is p (fl 0) i ∷ flag_is q (fl 1) i ∷ flag_is r (fl 2) i ∷ flag_is s (fl 3) i ∷ []) * 2113665 / 2097152 % 16)
+    ∙ four_digits (ltb 0 p) (ltb 0 q) (ltb 0 r) (ltb 0 s)
+four_flags (p ∷ q ∷ r ∷ s ∷ t ∷ l) h fl = absurd (omega (arith, h))
+
+-- an entry of the fours is four entries of the whole
+four_at : (m i j : ℕ) (l : List ℕ) → i < m → j < 4 → get_or (get_or (first_chunks 4 m l) i []) j 0 ≡ get_or l (4 * i + j) 0
+four_at zero i j l h k = absurd (omega arith)
+four_at (suc m) zero j l h k = get_or-take 4 l j 0 k ∙ ap (λ (x : ℕ). get_or l x 0) (let e : j ≡ 4 * 0 + j = omega arith in e)
+four_at (suc m) (suc i) j l h k =
+    four_at m i j (drop 4 l) (omega arith) k ∙ get_or-drop 4 l (4 * i + j) 0
+    ∙ ap (λ (x : ℕ). get_or l x 0) (let e : 4 + (4 * i + j) ≡ 4 * suc i + j = omega arith in e)
+
+four_size : (m i : ℕ) (l : List ℕ) → i < m → 4 * m ≤ length l → length (get_or (first_chunks 4 m l) i []) ≡ 4
+four_size zero i l h k = absurd (omega arith)
+four_size (suc m) zero l h k = length-take-le 4 l (omega arith)
+four_size (suc m) (suc i) l h k = four_size m i (drop 4 l) (omega arith) (omega (arith, k, length-drop 4 l))
+
+module _ {fours : List (List ℕ)} {m : ℕ} (l : List ℕ) (e : fours ≡ first_chunks 4 m l) (k : ℕ) (inside : k < m) where
+  pub fours_flags : 4 * m ≤ length l → Flags l → Flags (get_or fours k [])
+  fours_flags long fl j = go (dec_lt j 4)
+    where
+      go : Dec (j < 4) → get_or (get_or fours k []) j 0 ≤ 1
+      go (yes h) = omega (arith, ap (λ (x : List (List ℕ)). get_or (get_or x k []) j 0) e, four_at m k j l inside h, fl (4 * k + j))
+      go (no h) = omega (arith, get_or_past (get_or fours k []) j 0 (omega (arith, ap (λ (x : List (List ℕ)). length (get_or x k [])) e, four_size m k l inside long)))
+
+  pub fours_number : number 4 (flagged (get_or fours k [])) ≡ number 4 (from (4 * k) (flagged l))
+  fours_number =
+      number_cong 4 _ _ (λ j h. ap (ltb 0) (ap (λ (x : List (List ℕ)). get_or (get_or x k []) j 0) e ∙ four_at m k j l inside h))
 
 -- The digits of a set from 4k on, of those below 4 top: none, four more below them, and all. A loop from top down to 0 makes a word so.
 module _ (top : ℕ) (f : Set) where
@@ -88,15 +111,14 @@ module _ (top : ℕ) (f : Set) where
       whole ∙ ap (λ (w : ℕ). number w g) width
 
   -- and those below n, of all
-  pub gather_all : (n : ℕ) {a p : ℕ} → n ≤ 4 * top → n ≤ 64 → a ≡ number (4 * (top - 0)) (from (4 * 0) f) → p ≡ 2 ^ n → a % p ≡ number 64 (upto n f)
-  gather_all n l h e q =
-      let k : 4 * (top - 0) ≡ 0 + (n + (4 * top - n)) = omega arith in
-      let w : n + (64 - n) ≡ 64 = omega arith in
-      ap₂ (λ (x y : ℕ). x % y) (e ∙ ap (λ (x : ℕ). number x (from (4 * 0) f)) k ∙ sym (div-one _)) q
-      ∙ number_part 0 n (4 * top - n) (from (4 * 0) f)
-      ∙ number_cong n (from 0 (from (4 * 0) f)) (upto n f) (λ j m. let x : 4 * 0 + (0 + j) ≡ j = omega arith in ap f x ∙ sym (ap (λ (b : Bool). b && f j) (lt-ltb j n m)))
-      ∙ sym (number_narrow n (64 - n) (upto n f) (λ j m. ap (λ (b : Bool). b && f j) (le-ltb j n m)))
-      ∙ ap (λ (x : ℕ). number x (upto n f)) w
+  pub gather_all : (n : ℕ) {a r : ℕ} → n ≤ 4 * top → a ≡ number (4 * (top - 0)) (from (4 * 0) f) → r ≡ number 64 (upto n (members a)) → r ≡ number 64 (upto n f)
+  gather_all n {a} l e q = q ∙ number_cong 64 (upto n (members a)) (upto n f) (λ j m. go j (dec_lt j n))
+    where
+      go : (j : ℕ) → Dec (j < n) → (ltb j n && members a j) ≡ (ltb j n && f j)
+      go j (yes h) =
+          let x : 4 * 0 + j ≡ j = omega arith in
+          ap (λ (b : Bool). ltb j n && b) (contained (4 * (top - 0)) (from (4 * 0) f) e j (omega arith) ∙ ap f x)
+      go j (no h) = let z = le-ltb j n (omega arith) in ap (λ (b : Bool). b && members a j) z ∙ sym (ap (λ (b : Bool). b && f j) z)
 
   -- the word has room for four more
   pub gather_low : (k : ℕ) {a : ℕ} → top ≤ 12 → 0 < k → a ≡ number (4 * (top - k)) (from (4 * k) f) → a < 17592186044416

@@ -2,17 +2,27 @@
 -- Assumes nothing.
 use Prim.Native.Nat.{ℕ, ◌+◌, ◌-◌, ◌≤◌, ◌<◌}
 use mathlib.Core.Bool.{Bool, true, false, cond, ◌&&◌, ◌||◌, not, true≢false}
-use mathlib.Core.Path.{◌≡◌, refl, sym, ap, subst, ◌∙◌, fun_ext}
+use mathlib.Core.Path.{◌≡◌, refl, sym, ap, ◌∙◌, fun_ext}
 use native.Mathlib.Decide.{ℕ_discrete, dec_lt}
 use native.Mathlib.Omega.{arith}
-use borrow.Author.Tests.{lt-ltb, le-ltb, eq-eqb, ne_eqb}
+use borrow.Author.Tests.{ltb-true, lt-ltb, le-ltb, eq-eqb, ne_eqb}
 use lib.Dec.{eqb, ltb}
-use Rattle.sets.specs.Sets.{members, upto}
+use lib.ListN.{get_or}
+use mathlib.Core.List.{List}
+use mir.Val.{bool_byte}
+use Rattle.std.proofs.Common.{Some}
+use Rattle.std.proofs.Math.Bool.{and-true}
+use Rattle.std.proofs.lemmas.Bool.{not-true}
+use Rattle.sets.specs.Sets.{members, upto, differing}
+use Rattle.sets.specs.Members.{GivesNext}
 use Rattle.sets.proofs.Laws.{contained}
+use Rattle.sets.proofs.Least.{left_members}
+use Rattle.model.proofs.Tests.{and_left, and_right}
+use Rattle.model.proofs.Masks.{bit_lt}
 use Rattle.model.specs.Sets.{Set, bit, number}
 use Rattle.model.specs.Firing.{Marking, tokens_after}
-use Rattle.step.specs.Words.{changing}
-use Rattle.step.specs.Places.{tokens_on, with_tokens, put, Movable}
+use Rattle.step.proofs.Gathering.{bit_of_byte}
+use Rattle.step.specs.Places.{width, room_on, tokens_on, with_tokens, put, Movable}
 use Rattle.step.specs.declared.places.PlaceKind.{PlaceKind}
 use Rattle.step.specs.declared.places.PlaceKind.TheVariants.{Context, Pr, PrNot}
 
@@ -38,80 +48,118 @@ pub others_kept : (k : PlaceKind) (f g : ℕ → ℕ) (m₀ m m' : Marking) → 
 others_kept k f g m₀ m m' e e' =
     e' ∙ ap (with_tokens k f) e ∙ with_again k f g m₀ ∙ ap (λ (h : ℕ → ℕ). with_tokens k h m₀) (sym (ap (tokens_on k) e' ∙ tokens_with k f m))
 
+-- what a place can hold its entry can tell, of two bytes at most
+pub width_two : (k : PlaceKind) → width k ≤ 65535
+width_two Context = omega arith
+width_two Pr = omega arith
+width_two PrNot = omega arith
+
+pub room_width : (k : PlaceKind) (capacities : List ℕ) → ((c : ℕ) → get_or capacities c 0 ≤ 255) → (c : ℕ) → room_on k capacities c ≤ width k
+room_width Context capacities h c = h c
+room_width Pr capacities h c = omega arith
+room_width PrNot capacities h c = omega arith
+
 -- ---- one place
 
--- where it is taken or given and not both
-one_moves : (t g : Bool) (x : ℕ) → ((t && not g) || (g && not t)) ≡ true → cond t (x - 1) (x + 1) ≡ x - bit t + bit g
-one_moves true true x e = absurd (true≢false (sym e))
-one_moves true false x e = omega arith
-one_moves false true x e = omega arith
-one_moves false false x e = absurd (true≢false (sym e))
-
--- it is given, where it is not taken
-given : (t g : Bool) → ((t && not g) || (g && not t)) ≡ true → t ≡ false → g ≡ true
-given true g e t = absurd (true≢false t)
-given false true e t = refl
-given false false e t = absurd (true≢false (sym e))
-
--- and where it is both, or neither
+-- where it is both taken and given, or neither, it keeps its tokens
 one_stays : (t g : Bool) (x : ℕ) → ((t && not g) || (g && not t)) ≡ false → (t ≡ true → 0 < x) → x ≡ x - bit t + bit g
 one_stays true true x e h = let q = h refl in omega arith
 one_stays true false x e h = absurd (true≢false e)
 one_stays false true x e h = absurd (true≢false e)
 one_stays false false x e h = omega arith
 
--- ---- all of them, in rising order: those below `from` have moved
+-- a test as a byte
+bit_of : {b t : Bool} {x : ℕ} → x ≡ bool_byte b → b ≡ t → x ≡ bit t
+bit_of {b} e q = e ∙ bit_of_byte b ∙ ap bit q
 
-module _ {n : ℕ} {takes gives : Set} {room before : ℕ → ℕ} (can : Movable n takes gives room before) (few : n ≤ 48) {moving : ℕ} (holds : moving ≡ number 64 (changing takes gives)) where
-  -- a context that is passed over keeps its tokens, which is what a firing leaves it
-  stays : (j : ℕ) → (j < n → members moving j ≡ false) → before j ≡ tokens_after (upto n takes) (upto n gives) before j
-  stays j out = go (dec_lt j n)
+-- ---- all of them, one context after the other
+
+-- where a firing has moved the tokens of the contexts that are not left
+pub record Moved (n : ℕ) (takes gives : Set) (before now : ℕ → ℕ) (left : ℕ) : Type 0 where
+  pub inside : (c : ℕ) → c < 64 → members left c ≡ true → (c < n) × (differing takes gives c ≡ true) × (now c ≡ before c)
+  pub done : (c : ℕ) → (c < 64 → members left c ≡ false) → now c ≡ tokens_after (upto n takes) (upto n gives) before c
+
+module _ {n : ℕ} {takes gives : Set} {room before : ℕ → ℕ} (can : Movable n takes gives room before) (few : n ≤ 48) where
+  -- at first all are left whose tokens a firing changes: the others keep theirs
+  pub moved_start : {moving left : ℕ} → moving ≡ number 64 (differing takes gives) → left ≡ number 64 (upto n (members moving)) → Moved n takes gives before before left
+  moved_start {moving} {left} holds e =
+      record {
+        inside = λ c h t. let both = sym (here c h) ∙ t in (ltb-true c n (and_left (ltb c n) (differing takes gives c) both), and_right (ltb c n) (differing takes gives c) both, refl);
+        done = λ c out. go c out (dec_lt c n);
+      }
     where
-      go : Dec (j < n) → before j ≡ before j - bit (ltb j n && takes j) + bit (ltb j n && gives j)
-      go (yes h) =
-          one_stays (takes j) (gives j) (before j) (sym (contained 64 (changing takes gives) holds j (omega arith)) ∙ out h) (can.token j h)
-          ∙ sym (ap (λ (b : Bool). before j - bit (b && takes j) + bit (b && gives j)) (lt-ltb j n h))
-      go (no h) =
-          (let z : before j ≡ before j - 0 + 0 = omega arith in z)
-          ∙ sym (ap (λ (b : Bool). before j - bit (b && takes j) + bit (b && gives j)) (le-ltb j n (omega arith)))
+      here : (c : ℕ) → c < 64 → members left c ≡ (ltb c n && differing takes gives c)
+      here c h = contained 64 (upto n (members moving)) e c h ∙ ap (λ (b : Bool). ltb c n && b) (contained 64 (differing takes gives) holds c h)
 
-  module _ {now : ℕ → ℕ} {from : ℕ} (done : (j : ℕ) → j < from → now j ≡ tokens_after (upto n takes) (upto n gives) before j)
-      (rest : (j : ℕ) → from ≤ j → now j ≡ before j) where
-    -- a context that is come to can move
-    module _ (c : ℕ) (h : c < n) (l : from ≤ c) (hit : members moving c ≡ true) where
-      turned : changing takes gives c ≡ true
-      turned = sym (contained 64 (changing takes gives) holds c (omega arith)) ∙ hit
+      go : (c : ℕ) → (c < 64 → members left c ≡ false) → Dec (c < n) → before c ≡ before c - bit (ltb c n && takes c) + bit (ltb c n && gives c)
+      go c out (yes h) =
+          let l : c < 64 = omega arith in
+          one_stays (takes c) (gives c) (before c) (ap (λ (b : Bool). b && differing takes gives c) (sym (lt-ltb c n h)) ∙ sym (here c l) ∙ out l) (can.token c h)
+          ∙ sym (ap (λ (b : Bool). before c - bit (b && takes c) + bit (b && gives c)) (lt-ltb c n h))
+      go c out (no h) =
+          (let z : before c ≡ before c - 0 + 0 = omega arith in z)
+          ∙ sym (ap (λ (b : Bool). before c - bit (b && takes c) + bit (b && gives c)) (le-ltb c n (omega arith)))
 
-      pub some_token : takes c ≡ true → 0 < now c
-      some_token t = subst (λ (x : ℕ). 0 < x) (sym (rest c l)) (can.token c h t)
+  module _ {now : ℕ → ℕ} {left : ℕ} (m : Moved n takes gives before now left) where
+    -- the next can move
+    module _ {c after : ℕ} (next : GivesNext left (Some c) after) where
+      here : (c < n) × (differing takes gives c ≡ true) × (now c ≡ before c)
+      here = m.inside c next.0 next.1.hit
 
-      pub some_room : takes c ≡ false → now c < room c
-      some_room t = subst (λ (x : ℕ). x < room c) (sym (rest c l)) (can.space c h (given (takes c) (gives c) turned t) t)
+      -- among as many contexts as there were
+      pub next_inside : {k : ℕ} → k ≡ n → c < k
+      next_inside same = omega (arith, same, here.0)
 
-      pub done_more : ((j : ℕ) → from ≤ j → j < c → members moving j ≡ false) → (j : ℕ) → j < c + 1
-          → put c (cond (takes c) (now c - 1) (now c + 1)) now j ≡ tokens_after (upto n takes) (upto n gives) before j
-      done_more gap j k = go (ℕ_discrete j c) (dec_lt j from)
+      -- its tokens, and the byte of the test whether it is taken
+      module _ {x u : ℕ} {taken : Bool} (e : x ≡ now c) (is_byte : u ≡ bool_byte taken) (is_taken : taken ≡ takes c) where
+        et : u ≡ bit (takes c)
+        et = bit_of is_byte is_taken
+
+        pub next_token : u ≤ x
+        next_token = go (takes c) refl
+          where
+            go : (b : Bool) → takes c ≡ b → u ≤ x
+            go true q = let z = can.token c here.0 q in omega (arith, et, ap bit q, e, here.2)
+            go false q = omega (arith, et, ap bit q)
+
+        -- and of the test whether it is given
+        module _ {g : ℕ} {given : Bool} (is_byte' : g ≡ bool_byte given) (is_given : given ≡ gives c) where
+          eg : g ≡ bit (gives c)
+          eg = bit_of is_byte' is_given
+
+          pub next_room : {most : ℕ} → x ≤ most → room c ≤ most → x - u + g ≤ most
+          next_room {most} l r = go (takes c) (gives c) refl refl
+            where
+              go : (b d : Bool) → takes c ≡ b → gives c ≡ d → x - u + g ≤ most
+              go true d q q' = let z = can.token c here.0 q in omega (arith, et, ap bit q, eg, bit_lt (gives c), e, here.2)
+              go false true q q' = let z = can.space c here.0 q' q in omega (arith, et, ap bit q, eg, ap bit q', e, here.2)
+              go false false q q' = omega (arith, et, eg, ap bit q')
+
+          pub next_tokens : x - u + g ≡ now c - bit (takes c) + bit (gives c)
+          next_tokens = λ i. e i - et i + eg i
+
+      -- and moves
+      pub moved_more : {x : ℕ} → x ≡ now c - bit (takes c) + bit (gives c) → Moved n takes gives before (put c x now) after
+      moved_more {x} e =
+          record {
+            inside = λ j h t.
+                let both = sym (left_members left c next.2 j h) ∙ t in
+                let old = m.inside j h (and_left (members left j) (not (eqb j c)) both) in
+                (old.0, old.1, ap (λ (b : Bool). cond b x (now j)) (not-true (eqb j c) (and_right (members left j) (not (eqb j c)) both)) ∙ old.2);
+            done = λ j out. go j out (ℕ_discrete j c);
+          }
         where
-          x : ℕ
-          x = cond (takes c) (now c - 1) (now c + 1)
+          at : x ≡ tokens_after (upto n takes) (upto n gives) before c
+          at =
+              e ∙ ap (λ (y : ℕ). y - bit (takes c) + bit (gives c)) here.2
+              ∙ sym (ap (λ (b : Bool). before c - bit (b && takes c) + bit (b && gives c)) (lt-ltb c n here.0))
 
-          here : x ≡ tokens_after (upto n takes) (upto n gives) before c
-          here =
-              ap (λ (y : ℕ). cond (takes c) (y - 1) (y + 1)) (rest c l) ∙ one_moves (takes c) (gives c) (before c) turned
-              ∙ sym (ap (λ (b : Bool). before c - bit (b && takes c) + bit (b && gives c)) (lt-ltb c n h))
-
-          go : Dec (j ≡ c) → Dec (j < from) → cond (eqb j c) x (now j) ≡ tokens_after (upto n takes) (upto n gives) before j
-          go (yes q) d = ap (λ (b : Bool). cond b x (now j)) (eq-eqb j c q) ∙ here ∙ ap (tokens_after (upto n takes) (upto n gives) before) (sym q)
-          go (no q) (yes d) = ap (λ (b : Bool). cond b x (now j)) (ne_eqb j c q) ∙ done j d
-          go (no q) (no d) = ap (λ (b : Bool). cond b x (now j)) (ne_eqb j c q) ∙ rest j (omega arith) ∙ stays j (λ y. gap j (omega arith) (omega arith))
-
-      pub rest_more : (x j : ℕ) → c + 1 ≤ j → put c x now j ≡ before j
-      rest_more x j k = ap (λ (b : Bool). cond b x (now j)) (ne_eqb j c (λ q. omega arith)) ∙ rest j (omega arith)
+          go : (j : ℕ) → (j < 64 → members after j ≡ false) → Dec (j ≡ c) → cond (eqb j c) x (now j) ≡ tokens_after (upto n takes) (upto n gives) before j
+          go j out (yes q) = ap (λ (b : Bool). cond b x (now j)) (eq-eqb j c q) ∙ at ∙ ap (tokens_after (upto n takes) (upto n gives) before) (sym q)
+          go j out (no q) =
+              ap (λ (b : Bool). cond b x (now j)) (ne_eqb j c q)
+              ∙ m.done j (λ h. sym (and-true (members left j)) ∙ sym (ap (λ (b : Bool). members left j && not b) (ne_eqb j c q)) ∙ sym (left_members left c next.2 j h) ∙ out h)
 
     -- where none is left, all have moved
-    pub all_moved : ((j : ℕ) → from ≤ j → j < n → members moving j ≡ false) → now ≡ tokens_after (upto n takes) (upto n gives) before
-    all_moved gap = fun_ext (λ j. go j (dec_lt j from))
-      where
-        go : (j : ℕ) → Dec (j < from) → now j ≡ tokens_after (upto n takes) (upto n gives) before j
-        go j (yes d) = done j d
-        go j (no d) = rest j (omega arith) ∙ stays j (λ y. gap j (omega arith) y)
+    pub all_moved : ((j : ℕ) → members left j ≡ false) → now ≡ tokens_after (upto n takes) (upto n gives) before
+    all_moved none = fun_ext (λ j. m.done j (λ h. none j))

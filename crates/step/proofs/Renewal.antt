@@ -1,8 +1,8 @@
--- Words that are renewed at one context, and arrays of which one entry changes.
+-- Sets that are renewed at one context, and arrays of which one entry changes.
 -- Assumes nothing.
 use Prim.Native.Nat.{ℕ, ◌+◌, ◌<◌, ◌≤◌}
-use mathlib.Core.Bool.{Bool, true, false, cond, ◌&&◌, ◌||◌, not}
-use mathlib.Core.Path.{◌≡◌, refl, sym, ap, subst, ◌∙◌, fun_ext}
+use mathlib.Core.Bool.{Bool, cond, ◌&&◌}
+use mathlib.Core.Path.{◌≡◌, sym, ap, subst, ◌∙◌, fun_ext}
 use mathlib.Core.List.{List}
 use native.Mathlib.Decide.{ℕ_discrete, dec_lt}
 use native.Mathlib.Omega.{arith}
@@ -10,38 +10,18 @@ use borrow.Author.Tests.{lt-ltb, le-ltb, eq-eqb, ne_eqb}
 use lib.Dec.{eqb, ltb}
 use lib.ListN.{length, get_or, set}
 use lib.Seq.{get_or-set_same, get_or-set_other}
-use Rattle.sets.specs.Sets.{members, insert, remove, upto}
+use Rattle.sets.specs.Sets.{members, upto, assigned}
 use Rattle.sets.proofs.Laws.{contained, zero_holds}
-use Rattle.model.specs.Sets.{Set, empty_set, number}
+use Rattle.model.specs.Sets.{empty_set, number}
 use Rattle.model.specs.Firing.{Marking, holds_token}
 use Rattle.model.specs.Machine.{zeros}
 use Rattle.model.proofs.Masks.{number_cong}
 use Rattle.net.specs.Markings.{counts_in, marking, Shows}
-use Rattle.net.specs.declared.Marked.{Marked}
-use Rattle.net.proofs.Readiness.{and_none}
-use Rattle.step.specs.Words.{assigned}
+use Rattle.net.specs.declared.marked.Marked.{Marked}
+use Rattle.std.proofs.Math.Bool.{and-false}
 use Rattle.step.specs.Spare.{spare_word}
 use Rattle.step.specs.Places.{with_tokens, put}
 use Rattle.step.specs.declared.places.PlaceKind.TheVariants.{Context, Pr, PrNot}
-
-or_cond : (a b : Bool) → (a || b) ≡ cond b true a
-or_cond true true = refl
-or_cond true false = refl
-or_cond false true = refl
-or_cond false false = refl
-
-and_cond : (a b : Bool) → (a && not b) ≡ cond b false a
-and_cond true true = refl
-and_cond true false = refl
-and_cond false true = refl
-and_cond false false = refl
-
-module _ (w : ℕ) (f : Set) (c : ℕ) {r : ℕ} {test : Bool} where
-  pub assigned_in : test ≡ true → r ≡ number w (insert c f) → r ≡ number w (assigned f c test)
-  assigned_in t e = e ∙ number_cong w (insert c f) (assigned f c test) (λ j l. or_cond (f j) (eqb j c) ∙ ap (λ (b : Bool). cond (eqb j c) b (f j)) (sym t))
-
-  pub assigned_out : test ≡ false → r ≡ number w (remove c f) → r ≡ number w (assigned f c test)
-  assigned_out t e = e ∙ number_cong w (remove c f) (assigned f c test) (λ j l. and_cond (f j) (eqb j c) ∙ ap (λ (b : Bool). cond (eqb j c) b (f j)) (sym t))
 
 -- a set of the first n numbers that pass a test of theirs and of what stands there, where x is put at c
 pub put_word : (w n : ℕ) (test : ℕ → ℕ → Bool) (f : ℕ → ℕ) (c x : ℕ) {a r : ℕ} → c < n
@@ -133,4 +113,4 @@ spare_shown n capacities counts c x h l ha e =
 
 -- no place of empty ones holds a token
 pub upto_zeros : (w n : ℕ) → 0 ≡ number w (upto n (holds_token zeros))
-upto_zeros w n = zero_holds w ∙ number_cong w empty_set (upto n (holds_token zeros)) (λ j l. sym (and_none (ltb j n)))
+upto_zeros w n = zero_holds w ∙ number_cong w empty_set (upto n (holds_token zeros)) (λ j l. sym (and-false (ltb j n)))

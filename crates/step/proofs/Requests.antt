@@ -1,6 +1,6 @@
 -- The marking in which a request's step begins, and what is left of it at the end.
 -- Assumes nothing.
-use Prim.Native.Nat.{ℕ, zero, suc, ◌+◌, ◌<◌, ◌≤◌}
+use Prim.Native.Nat.{ℕ, zero, suc, ◌+◌, ◌≤◌}
 use mathlib.Core.Bool.{Bool, true, false, cond, ◌&&◌, not}
 use mathlib.Core.Path.{◌≡◌, refl, sym, ap, ap₂, ◌∙◌}
 use mathlib.Core.List.{List}
@@ -17,9 +17,9 @@ use Rattle.model.specs.declared.Request.{Request}
 use Rattle.model.specs.Claims.{at_rest}
 use Rattle.model.proofs.Masks.{bit_lt}
 use Rattle.net.specs.Markings.{counts_in, marking, Shows, AtMost}
-use Rattle.net.specs.declared.Marked.{Marked}
+use Rattle.net.specs.declared.marked.Marked.{Marked}
 use Rattle.net.proofs.Readiness.{all_and}
-use Rattle.step.specs.Places.{room_on, tokens_on, put, shifted_at, cleared}
+use Rattle.step.specs.Places.{put, put_at, cleared}
 use Rattle.step.specs.declared.places.PlaceKind.TheVariants.{Pr, PrNot}
 use Rattle.step.proofs.Gathering.{zeros_at}
 use Rattle.step.proofs.Renewal.{upto_zeros}
@@ -32,32 +32,27 @@ pr_none false j = refl
 pub rests : (counts : List ℕ) → marking counts (replicate 96 0) ≡ at_rest (counts_in counts)
 rests counts = λ i. record { count = counts_in counts; pr = λ c. pr_none (ltb c 48) c i; pr_not = λ c. zeros_at 96 (48 + c) i }
 
-pub rests_shown : (n : ℕ) (counts : List ℕ) {active : ℕ} → active ≡ number 64 (upto n (holds_token (counts_in counts)))
-    → Shows n (marking counts (replicate 96 0)) (record { context = active; pr = 0; pr_not = 0 })
-rests_shown n counts e =
+pub rests_shown : (n : ℕ) (counts : List ℕ) {active pr pr_not : ℕ} → active ≡ number 64 (upto n (holds_token (counts_in counts))) → pr ≡ 0 → pr_not ≡ 0
+    → Shows n (marking counts (replicate 96 0)) (record { context = active; pr = pr; pr_not = pr_not })
+rests_shown n counts e z z' =
     record {
       context = e;
-      pr = upto_zeros 64 n ∙ ap (λ (m : Marking). number 64 (upto n (holds_token m.pr))) (sym (rests counts));
-      pr_not = upto_zeros 64 n ∙ ap (λ (m : Marking). number 64 (upto n (holds_token m.pr_not))) (sym (rests counts));
+      pr = z ∙ upto_zeros 64 n ∙ ap (λ (m : Marking). number 64 (upto n (holds_token m.pr))) (sym (rests counts));
+      pr_not = z' ∙ upto_zeros 64 n ∙ ap (λ (m : Marking). number 64 (upto n (holds_token m.pr_not))) (sym (rests counts));
     }
 
 -- one token there
-one_at : (c j : ℕ) → put c (0 + 1) zeros j ≡ bit (singleton c j)
+one_at : (c j : ℕ) → put c 1 zeros j ≡ bit (singleton c j)
 one_at c j = go (eqb j c)
   where
-    go : (b : Bool) → cond b (0 + 1) 0 ≡ bit b
+    go : (b : Bool) → cond b 1 0 ≡ bit b
     go true = refl
     go false = refl
 
-pub begun : (m : Counts) (on : Bool) (c : ℕ) → shifted_at (cond on Pr PrNot) c false (at_rest m) ≡ initial_marking m (record { on = on; context = c })
+pub begun : (m : Counts) (on : Bool) (c : ℕ) → put_at (cond on Pr PrNot) c 1 (at_rest m) ≡ initial_marking m (record { on = on; context = c })
 unfolding initial_marking
 begun m true c = λ i. record { count = m; pr = λ j. one_at c j i; pr_not = zeros }
 begun m false c = λ i. record { count = m; pr = zeros; pr_not = λ j. one_at c j i }
-
--- there is room for it
-pub asked_room : (on : Bool) (capacities : List ℕ) (m : Marking) (c : ℕ) → m ≡ at_rest m.count → tokens_on (cond on Pr PrNot) m c < room_on (cond on Pr PrNot) capacities c
-asked_room true capacities m c e = let z : m.pr c ≡ 0 = ap (λ (x : Marking). x.pr c) e in omega arith
-asked_room false capacities m c e = let z : m.pr_not c ≡ 0 = ap (λ (x : Marking). x.pr_not c) e in omega arith
 
 -- no temporary place holds more than one
 pub one_most : (m : Counts) (r : Request) → AtMost 1 (initial_marking m r)

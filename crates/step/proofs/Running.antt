@@ -91,12 +91,13 @@ pub record Going (net : Net) (p₀ p : Places) (firings forced : ℕ) : Type 0 w
   pub few : firings ≤ 4096
   pub fewer : forced ≤ firings
   pub contexts : p₀.contexts ≡ net.contexts
+  pub long : net.contexts ≤ length p₀.capacities
   pub limits : SameLimits p₀ p
   pub low : AtMost (firings + 1) (marking_of p)
   pub so_far : Loops.Fired (net_with net p₀.capacities) (marking_of p₀) firings forced (marking_of p)
 
-pub going_start : (net : Net) (p₀ : Places) → p₀.contexts ≡ net.contexts → AtMost 1 (marking_of p₀) → Going net p₀ p₀ 0 0
-going_start net p₀ e l = record { few = omega arith; fewer = omega arith; contexts = e; limits = record { contexts = refl; capacities = refl }; low = l; so_far = start }
+pub going_start : (net : Net) (p₀ : Places) → length p₀.capacities ≡ 48 → p₀.contexts ≡ net.contexts → AtMost 1 (marking_of p₀) → Going net p₀ p₀ 0 0
+going_start net p₀ size e l = record { few = omega arith; fewer = omega arith; contexts = e; long = omega (arith, net.few_contexts, size); limits = record { contexts = refl; capacities = refl }; low = l; so_far = start }
 
 module _ (net : Net) (p₀ p : Places) {firings forced : ℕ} (g : Going net p₀ p firings forced) where
   same : p.contexts ≡ net.contexts
@@ -104,9 +105,8 @@ module _ (net : Net) (p₀ p : Places) {firings forced : ℕ} (g : Going net p�
 
   fires_in : (r : _) → Chooses net p.marked p.spare r → Fires r (net_with net p₀.capacities) (marking_of p)
   fires_in r ch =
-      let long : net.contexts ≤ length p₀.capacities = omega (arith, net.few_contexts, p₀.capacities_size) in
-      ch.fires (net_with net p₀.capacities) (marking_of p) (size_with net p₀.capacities long) (fits_with net p₀.capacities long)
-      (stores_with net p₀.capacities long) (rw (sym same) p.shows)
+      ch.fires (net_with net p₀.capacities) (marking_of p) (size_with net p₀.capacities g.long) (fits_with net p₀.capacities g.long)
+      (stores_with net p₀.capacities g.long) (rw (sym same) p.shows)
       (rw (g.limits.capacities, same) at p.spare_is ∙ spare_with net p₀.capacities p.counts (marking_of p) refl)
 
   pub in_arrays : {i : ℕ} → Chooses net p.marked p.spare (Some i) → i < 192
@@ -134,6 +134,7 @@ module _ (net : Net) (p₀ p : Places) {firings forced : ℕ} (g : Going net p�
         few = let k = g.few in omega arith;
         fewer = omega (arith, one_more forced firings false last g.fewer);
         contexts = g.contexts;
+        long = g.long;
         limits = record { contexts = same_limits.contexts ∙ g.limits.contexts; capacities = same_limits.capacities ∙ g.limits.capacities };
         low = subst (AtMost (firings + 1 + 1)) (sym f) (fire_low (firings + 1) (reading p.contexts a) (marking_of p) g.low);
         so_far = further (fires_in (Some i) ch);
@@ -142,15 +143,12 @@ module _ (net : Net) (p₀ p : Places) {firings forced : ℕ} (g : Going net p�
       whole : model.Net
       whole = net_with net p₀.capacities
 
-      long : net.contexts ≤ length p₀.capacities
-      long = omega (arith, net.few_contexts, p₀.capacities_size)
-
       further : Fires (Some i) whole (marking_of p) → Loops.Fired whole (marking_of p₀) (firings + 1) (forced + bit last) (marking_of p')
       further fi =
           let u = get_or (transitions whole) i blank in
-          let stores = stores_with net p₀.capacities long in
-          let fits = fits_with net p₀.capacities long in
-          let size = size_with net p₀.capacities long in
+          let stores = stores_with net p₀.capacities g.long in
+          let fits = fits_with net p₀.capacities g.long in
+          let size = size_with net p₀.capacities g.long in
           let has : Holds a u = subst (λ (x : Arcs). Holds x u) (sym e) (stores.at i (omega (arith, fi.0, stores.count))) in
           let low : Bounded p.contexts u = subst (λ (k : ℕ). Bounded k u) (size ∙ sym same) (each_get_or (bounded whole fits) i blank fi.0) in
           let after : fire u (marking_of p) ≡ marking_of p' = sym (f ∙ reading_fires p.contexts p.few a u has low (marking_of p)) in

@@ -1,10 +1,11 @@
 -- The marking that a step's places hold, and what a firing does to it.
 -- Assumes nothing.
-use Rattle.std.specs.Prelude.{ℕ, ◌+◌, ◌-◌, ◌<◌, Bool, true, false, ◌&&◌, cond, ◌≡◌, List, eqb, get_or}
+use Rattle.std.specs.Prelude.{ℕ, ◌<◌, Bool, true, false, ◌&&◌, cond, ◌≡◌, List, eqb, get_or}
 use Rattle.sets.specs.Sets.{members, upto}
 use Rattle.model.specs.Sets.{Set, all_below}
 use Rattle.model.specs.Transitions.{Transition, activates}
 use Rattle.model.specs.Firing.{Marking, is_empty, tokens_after}
+use Rattle.transitions.specs.Arcs.{priority_number}
 use Rattle.transitions.specs.declared.Arcs.{Arcs}
 use Rattle.net.specs.Markings.{marking, AtMost}
 use Rattle.net.specs.Walks.{passes}
@@ -31,9 +32,15 @@ with_tokens PrNot f m = record { count = m.count; pr = m.pr; pr_not = f }
 abbrev pub put : ℕ → ℕ → (ℕ → ℕ) → ℕ → ℕ
 put c x f j = cond (eqb j c) x (f j)
 
--- a marking with a token less on one place, where one is taken, or with one more
-abbrev pub shifted_at : PlaceKind → ℕ → (taken : Bool) → Marking → Marking
-shifted_at k c taken m = with_tokens k (put c (cond taken (tokens_on k m c - 1) (tokens_on k m c + 1)) (tokens_on k m)) m
+-- a marking with so many tokens on one place
+abbrev pub put_at : PlaceKind → ℕ → (tokens : ℕ) → Marking → Marking
+put_at k c tokens m = with_tokens k (put c tokens (tokens_on k m)) m
+
+-- the most that the entry of a place can tell, of one byte or of two
+abbrev pub width : PlaceKind → ℕ
+width Context = 255
+width Pr = 65535
+width PrNot = 65535
 
 -- what a place can hold: a context its capacity, a temporary place what its entry can tell
 abbrev pub room_on : PlaceKind → (capacities : List ℕ) → ℕ → ℕ
@@ -70,12 +77,12 @@ pub record SameLimits (p q : Places) : Type 0 where
   pub contexts : q.contexts ≡ p.contexts
   pub capacities : q.capacities ≡ p.capacities
 
--- the transition that the words hold, of a net of n contexts. The role has no word, and no token moves by it.
+-- the transition that the sets hold, of a net of n contexts. The role has no set, and no token moves by it.
 unfoldable pub reading : ℕ → Arcs → Transition
 reading n a =
     record {
       role = activates;
-      priority = a.priority;
+      priority = priority_number a.priority;
       takes_context = upto n (members a.takes_context);
       takes_pr = upto n (members a.takes_pr);
       takes_not = upto n (members a.takes_not);
@@ -86,7 +93,7 @@ reading n a =
       inhib_pr = upto n (members a.inhib_pr);
     }
 
--- what a firing asks: a transition that the words and the set of the contexts below their capacity find ready, and temporary places far
+-- what a firing asks: a transition that the sets and the set of the contexts below their capacity find ready, and temporary places far
 -- from full
 pub record Firable (p : Places) (a : Arcs) : Type 0 where
   pub ready : passes a p.marked p.spare ≡ true

@@ -1,20 +1,23 @@
-// The sets with which a step begins, told from the counts. Each context gets a flag, by a comparison that a compiler can make for many at a
-// time, and a multiplication brings four flags together.
+//! The sets with which a step begins, told from the counts. Each context gets a flag, by a
+//! comparison that a compiler can make for many at a time, and a multiplication brings four flags
+//! together.
 ghost use Rattle.std.specs.Prelude.{◌≡◌, ◌+◌, ◌*◌, ◌/◌, ◌<◌, ◌≤◌};
 ghost use Rattle.sets.specs.Sets.{upto};
-ghost use Rattle.model.specs.Sets.{bit, from, number};
+ghost use Rattle.model.specs.Sets.{from, number};
 ghost use Rattle.model.specs.Firing.{holds_token};
 ghost use Rattle.net.specs.Markings.{counts_in};
 ghost use Rattle.step.specs.Spare.{below, spare_word};
 ghost use Rattle.step.specs.Flags.{flagged, Flags};
 
-// Four flags from an offset on as the digits of a number, the first the lowest. The factor is the sum of 2 to the powers 0, 7, 14 and 21: in
+use sets::Set;
+
+// Four flags as the digits of a number, the first the lowest. The factor is the sum of 2 to the powers 0, 7, 14 and 21: in
 // the product flag i stands at digit 21 + i, and no two flags meet anywhere.
-fn four(flags: &[u8; 48], at: usize) -> u64
-    requires { (at + 4 ≤ 48) × Flags flags.now }
-    ensures { result ≡ number 4 (from at (flagged flags.now)) }
+fn four(flags: [u8; 4]) -> u64
+    requires { Flags flags }
+    ensures { result ≡ number 4 (flagged flags) }
 {
-    let apart = u32::from_le_bytes([flags[at], flags[at + 1], flags[at + 2], flags[at + 3]]);
+    let apart = u32::from_le_bytes(flags);
     u64::from(apart) * 2113665 / 2097152 % 16
 }
 
@@ -27,19 +30,20 @@ fn eights(n: usize) -> usize
 }
 
 // The set of the contexts that are flagged, of the first n. What is flagged behind them is cut off.
-fn gathered(flags: &[u8; 48], n: usize) -> u64
+fn gathered(flags: &[u8; 48], n: usize) -> Set
     requires { (n ≤ 48) × Flags flags.now }
     ensures { result ≡ number 64 (upto n (flagged flags.now)) }
 {
+    let (fours, _) = flags.as_chunks::<4>();
     let mut word = 0;
     for k in (0..eights(n) / 4).rev() {
-        word = 16 * word + four(flags, 4 * k);
+        word = 16 * word + four(fours[k]);
     }
-    word % sets::singleton(n)
+    Set::of_word(word).below(n)
 }
 
 // The contexts among the first n whose entry in one array is below that in the other.
-fn less(n: usize, low: &[u8; 48], high: &[u8; 48]) -> u64
+fn less(n: usize, low: &[u8; 48], high: &[u8; 48]) -> Set
     requires { n ≤ 48 }
     ensures { result ≡ number 64 (upto n (below high.now low.now)) }
 {
@@ -50,8 +54,8 @@ fn less(n: usize, low: &[u8; 48], high: &[u8; 48]) -> u64
     gathered(&flags, n)
 }
 
-// The active contexts among the first n: their counts are above 0.
-pub fn active(n: usize, counts: &[u8; 48]) -> u64
+/// The active contexts among the first n: their counts are above 0.
+pub fn active(n: usize, counts: &[u8; 48]) -> Set
     requires { n ≤ 48 }
     ensures { result ≡ number 64 (upto n (holds_token (counts_in counts.now))) }
 {
@@ -59,8 +63,8 @@ pub fn active(n: usize, counts: &[u8; 48]) -> u64
     less(n, &zeros, counts)
 }
 
-// The contexts among the first n that stand below their capacity.
-pub fn below_capacity(n: usize, capacities: &[u8; 48], counts: &[u8; 48]) -> u64
+/// The contexts among the first n that stand below their capacity.
+pub fn below_capacity(n: usize, capacities: &[u8; 48], counts: &[u8; 48]) -> Set
     requires { n ≤ 48 }
     ensures { result ≡ spare_word n capacities.now counts.now }
 {

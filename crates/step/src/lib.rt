@@ -1,8 +1,8 @@
-// The step of a request: the tokens on the places of a net, how a firing moves them, and the firings up to the end of the step.
+//! The step of a request: the tokens on the places of a net, how a firing moves them, and the
+//! firings up to the end of the step.
 #![tactic(auto)]
 
 mod beginning;
 mod places;
-mod words;
 
 pub use places::{Places, Stepped};

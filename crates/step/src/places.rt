@@ -1,17 +1,19 @@
-// The tokens on the places of a net, and the sets that a step goes by: which places are marked, and which contexts stand below their
-// capacity. A firing moves the tokens, and renews the sets at the places that change.
-ghost use Rattle.std.specs.Prelude.{◌≡◌, ◌+◌, ◌-◌, ◌<◌, ◌≤◌, cond, true, false, length};
+//! The tokens on the places of a net, and the sets that a step goes by: which places are marked, and
+//! which contexts stand below their capacity. A firing moves the tokens, and renews the sets at the
+//! places that change.
+ghost use Rattle.std.specs.Prelude.{ℕ, ◌≡◌, ◌≤◌, cond, get_or};
 ghost use Rattle.net.specs.Markings.{marking, Shows};
 ghost use Rattle.step.specs.Spare.{spare_word};
 ghost use Rattle.step.specs.declared.places.PlaceKind.TheVariants.{Pr, PrNot};
 
-use crate::{beginning, words};
+use crate::beginning;
 use model::Request;
 use net::{Marked, Net};
+use sets::Set;
 use transitions::Arcs;
 
-// The three kinds of places: those of the contexts, the Pr(c), and the Pr(¬c).
-#[derive(Clone, Copy)]
+/// The three kinds of places: those of the contexts, the Pr(c), and the Pr(¬c).
+#[derive(Clone, Copy, Debug, PartialEq, Eq)]
 enum PlaceKind {
     Context,
     Pr,
@@ -38,53 +40,45 @@ pub struct Places {
     // Pr(c) stands at c, Pr(¬c) at 48 + c
     temporary: [u16; 96],
     marked: Marked,
-    spare: u64,
-    pub ghost capacities_size: { length capacities ≡ 48 },
+    spare: Set,
     pub ghost few: { contexts ≤ 48 },
-    pub ghost counts_size: { length counts ≡ 48 },
-    pub ghost temporary_size: { length temporary ≡ 96 },
+    // a firing fills a place up to its capacity and reads no capacity: that it is a byte is said here
+    pub ghost narrow: { (c : ℕ) → get_or capacities c 0 ≤ 255 },
     pub ghost shows: { Shows contexts (marking counts temporary) marked },
     pub ghost spare_is: { spare ≡ spare_word contexts capacities counts },
 }
 
 // The temporary places on one of which a request puts its token.
-fn asking(request: Request) -> PlaceKind
-    ensures { result ≡ cond request.on Pr PrNot }
-{
-    if request.on {
-        PlaceKind::Pr
-    } else {
-        PlaceKind::PrNot
+impl From<Request> for PlaceKind {
+    ghost from_gives = { λ request kind. kind ≡ cond request.on Pr PrNot };
+
+    fn from(request: Request) -> Self {
+        if request.on {
+            PlaceKind::Pr
+        } else {
+            PlaceKind::PrNot
+        }
     }
 }
 
-// The tokens of a place with one less, where one is taken, or with one more.
-fn shifted(tokens: u16, taken: bool) -> u16
-    requires token { taken ≡ true → 0 < tokens }
-    requires room { taken ≡ false → tokens < 65535 }
-    ensures { result ≡ cond taken (tokens - 1) (tokens + 1) }
-{
-    if taken { tokens - 1 } else { tokens + 1 }
-}
-
 impl Places {
-    ghost use Rattle.std.specs.Prelude.{◌≡◌, ◌<◌, ◌≤◌, true, false};
+    ghost use Rattle.std.specs.Prelude.{◌<◌};
     ghost use Rattle.model.specs.Firing.{fire};
     ghost use Rattle.model.specs.Machine.{initial_marking};
     ghost use Rattle.model.specs.Claims.{at_rest};
     ghost use Rattle.net.specs.Nets.{contexts_of};
     ghost use Rattle.net.specs.Markings.{counts_in, AtMost};
-    ghost use Rattle.step.specs.Places.{marking_of, tokens_at, room_at, shifted_at, moved_on};
+    ghost use Rattle.step.specs.Places.{marking_of, width, tokens_at, put_at, moved_on};
     ghost use Rattle.step.specs.Places.{reading, cleared, Limits, SameLimits, CanMove, Firable};
     ghost use Rattle.step.specs.Steps.{step_from, Outcomes};
 
-    /// The places with these counts and no token on a temporary place.
+    /// The places of a net with these counts and no token on a temporary place.
     #[inline(always)]
-    pub fn at_rest(contexts: usize, capacities: &[u8; 48], counts: &[u8; 48]) -> Places
-        requires { contexts ≤ 48 }
+    pub fn at_rest(net: &Net, capacities: &[u8; 48], counts: &[u8; 48]) -> Places
         ensures marking { marking_of result ≡ at_rest (counts_in counts.now) }
-        ensures limits { Limits contexts capacities.now result }
+        ensures limits { Limits (contexts_of net.now) capacities.now result }
     {
+        let contexts = net.contexts();
         let context = beginning::active(contexts, counts);
         let spare = beginning::below_capacity(contexts, capacities, counts);
         Places {
@@ -94,69 +88,86 @@ impl Places {
             temporary: [0; 96],
             marked: Marked {
                 context,
-                pr: 0,
-                pr_not: 0,
+                pr: Set::empty(),
+                pr_not: Set::empty(),
             },
             spare,
         }
     }
 
     /// Begins the step of a request: one token on the request's own temporary place, where no other is.
+    // Apart from `at_rest`, since a function of both would hand back places that it changed, and move
+    // them: a request on a small net took a fifth more instructions.
     #[inline(always)]
     pub fn begin(&mut self, request: Request)
         requires inside { request.context < self.old.contexts }
         requires rest { marking_of self.old ≡ at_rest (marking_of self.old).count }
         ensures marking { marking_of self.new ≡ initial_marking (marking_of self.old).count request }
+        ensures low { AtMost 1 (marking_of self.new) }
         ensures limits { SameLimits self.old self.new }
     {
-        self.shift(asking(request), request.context, false);
+        self.put(PlaceKind::from(request), request.context, 1);
     }
 
-    // A token less on a context's place of a kind, where one is taken, or one more.
-    fn shift(&mut self, kind: PlaceKind, c: usize, taken: bool)
+    // The tokens on the place of context c of a kind.
+    fn tokens(&self, kind: PlaceKind, c: usize) -> u16
+        requires { c < self.now.contexts }
+        ensures tokens { result ≡ tokens_at self.now kind c }
+        ensures narrow { result ≤ width kind }
+    {
+        match kind {
+            PlaceKind::Context => u16::from(self.counts[c]),
+            PlaceKind::Pr => self.temporary[c],
+            PlaceKind::PrNot => self.temporary[48 + c],
+        }
+    }
+
+    // Puts so many tokens on the place of context c of a kind, in the place of those that are there.
+    fn put(&mut self, kind: PlaceKind, c: usize, tokens: u16)
         requires inside { c < self.old.contexts }
-        requires token { taken ≡ true → 0 < tokens_at self.old kind c }
-        requires room { taken ≡ false → tokens_at self.old kind c < room_at self.old kind c }
-        ensures marking { marking_of self.new ≡ shifted_at kind c taken (marking_of self.old) }
+        requires narrow { tokens ≤ width kind }
+        ensures marking { marking_of self.new ≡ put_at kind c tokens (marking_of self.old) }
         ensures limits { SameLimits self.old self.new }
     {
         match kind {
             PlaceKind::Context => {
-                let capacity = self.capacities[c];
-                let count = shifted(u16::from(self.counts[c]), taken) as u8;
-                self.counts[c] = count;
-                self.marked.context = words::assign(self.marked.context, c, 0 < count);
-                self.spare = words::assign(self.spare, c, count < capacity);
+                let capacity = u16::from(self.capacities[c]);
+                self.counts[c] = tokens as u8;
+                self.marked.context.assign(c, 0 < tokens);
+                self.spare.assign(c, tokens < capacity);
             }
             PlaceKind::Pr => {
-                let tokens = shifted(self.temporary[c], taken);
                 self.temporary[c] = tokens;
-                self.marked.pr = words::assign(self.marked.pr, c, 0 < tokens);
+                self.marked.pr.assign(c, 0 < tokens);
             }
             PlaceKind::PrNot => {
-                let tokens = shifted(self.temporary[48 + c], taken);
                 self.temporary[48 + c] = tokens;
-                self.marked.pr_not = words::assign(self.marked.pr_not, c, 0 < tokens);
+                self.marked.pr_not.assign(c, 0 < tokens);
             }
         }
     }
 
     // Moves the tokens of a firing on the places of one kind. A place that is taken and given keeps its tokens.
-    fn move_tokens(&mut self, kind: PlaceKind, takes: u64, gives: u64)
+    fn move_tokens(&mut self, kind: PlaceKind, takes: Set, gives: Set)
         requires { CanMove self.old kind takes gives }
         ensures marking { marking_of self.new ≡ moved_on kind self.old.contexts takes gives (marking_of self.old) }
         ensures limits { SameLimits self.old self.new }
     {
-        let moving = words::changes(takes, gives);
-        for c in sets::members(moving, self.contexts) {
-            self.shift(kind, c, sets::member(takes, c));
+        for c in takes
+            .symmetric_difference(gives)
+            .below(self.contexts)
+            .iter()
+        {
+            let tokens = self.tokens(kind, c) - u16::from(takes.contains(c))
+                + u16::from(gives.contains(c));
+            self.put(kind, c, tokens);
         }
     }
 
-    /// Fires a transition that these places find ready, where no temporary place holds more than 4,096 tokens.
-    pub fn fire(&mut self, arcs: Arcs)
-        requires { Firable self.old arcs }
-        ensures marking { marking_of self.new ≡ fire (reading self.old.contexts arcs) (marking_of self.old) }
+    // Fires a transition that these places find ready, where no temporary place holds more than 4,096 tokens.
+    fn fire(&mut self, arcs: &Arcs)
+        requires { Firable self.old arcs.now }
+        ensures marking { marking_of self.new ≡ fire (reading self.old.contexts arcs.now) (marking_of self.old) }
         ensures limits { SameLimits self.old self.new }
     {
         self.move_tokens(PlaceKind::Context, arcs.takes_context, arcs.gives_context);
@@ -173,7 +184,7 @@ impl Places {
     {
         let mut firings = 0;
         let mut forced = 0;
-        while let Some(i) = net.next(self.marked, self.spare) {
+        while let Some(i) = net.next(&self.marked, self.spare) {
             if firings == STEP_LIMIT {
                 return Stepped {
                     firings,
@@ -182,7 +193,7 @@ impl Places {
                 };
             }
             let arcs = net.arcs(i);
-            self.fire(arcs);
+            self.fire(&arcs);
             firings += 1;
             forced += usize::from(arcs.is_forced());
         }
@@ -197,7 +208,7 @@ impl Places {
     pub fn is_clear(&self) -> bool
         ensures { result ≡ cleared self.now.contexts (marking_of self.now) }
     {
-        self.marked.pr == 0 && self.marked.pr_not == 0
+        self.marked.pr.is_empty() && self.marked.pr_not.is_empty()
     }
 
     /// The counts of the contexts.

@@ -1,4 +1,4 @@
--- Which transition of a net is a forced one can be told by its words.
+-- Which transition of a net is a forced one can be told by its sets.
 -- Assumes nothing.
 use Prim.Native.Nat.{ℕ, ◌<◌, ◌≤◌}
 use native.Mathlib.Omega.{arith}
@@ -17,7 +17,7 @@ use Rattle.sets.proofs.Laws.{none_holds, below_fails}
 use Rattle.transitions.specs.Arcs.{Holds, unasked, Tells}
 use Rattle.transitions.specs.declared.Arcs.{Arcs}
 
--- a word with a member is not 0, and one without is
+-- a set with a member is not 0, and one without is
 some_word : (c : ℕ) → c < 64 → {w : ℕ} → w ≡ number 64 (singleton c) → eqb w 0 ≡ false
 some_word c h e = none_holds 64 (singleton c) e ∙ below_fails 64 (λ j. not (singleton c j)) c h (ap not (eq-eqb c c refl))
 

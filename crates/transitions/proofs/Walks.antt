@@ -24,7 +24,8 @@ use Rattle.model.proofs.Ready.{fitting}
 use Rattle.model.proofs.Tests.{or_false_left, or_false_right}
 use Rattle.transitions.specs.declared.Arcs.{Arcs}
 use Rattle.transitions.specs.Arcs.{arcs_of}
-use Rattle.transitions.specs.Walk.{own, own_transitions, has_extra}
+use Rattle.transitions.specs.declared.walk.Transitions.{Transitions}
+use Rattle.transitions.specs.Walk.{own, own_transitions, rest, has_extra}
 use Rattle.transitions.proofs.Words.{extra_excluded, extra_drop, extra_implied, extra_required, extra_declined}
 
 drop_next : {A : Type 0} (i : ℕ) (xs : List A) → drop (suc i) xs ≡ drop 1 (drop i xs)
@@ -57,7 +58,7 @@ module _ (net : Net) where
       ∙ ap (λ (x : ℕ). act net.rels x ∷ deac net.rels x ∷ drop (2 * c + 2) (own_transitions net)) (zero-add c)
 
   -- the transition that has number i comes first of those from i on
-  pub first_own : (i : ℕ) → i < 2 * size net → drop i (own_transitions net) ≡ own net.rels i ∷ drop (i + 1) (own_transitions net)
+  first_own : (i : ℕ) → i < 2 * size net → drop i (own_transitions net) ≡ own net.rels i ∷ drop (i + 1) (own_transitions net)
   first_own i h = go (ℕ_discrete (i % 2) 0)
     where
       c : ℕ
@@ -82,19 +83,19 @@ module _ (net : Net) where
           ∙ ap (λ (j : ℕ). deac net.rels c ∷ drop j l) (sym more))
 
   -- behind the own transitions of all contexts stand none
-  pub none_own : (i : ℕ) → 2 * size net ≤ i → drop i (own_transitions net) ≡ []
+  none_own : (i : ℕ) → 2 * size net ≤ i → drop i (own_transitions net) ≡ []
   unfolding context_transitions
   none_own i h =
       let count : length (own_transitions net) ≡ 2 * size net =
       length_concat_map (context_transitions net.rels) 2 (λ _. refl) (range 0 (size net)) ∙ ap (λ (k : ℕ). 2 * k) (length_range 0 (size net)) in
       drop_of_length-le (own_transitions net) {i = i} (omega arith)
 
-  -- the words of the own transitions from i on, and of the extra ones of these relations
+  -- the own transitions from i on, and the extra ones of these relations, as they are in the code
   abbrev pub left : ℕ → List Relation → List Arcs
   left i rs = map arcs_of (drop i (own_transitions net) ++ concat_map (extra net.rels) rs)
 
   -- an own one comes first
-  pub left_own : (i : ℕ) (rs : List Relation) (a : Arcs) → i < 2 * size net → a ≡ arcs_of (own net.rels i) → left i rs ≡ a ∷ left (i + 1) rs
+  left_own : (i : ℕ) (rs : List Relation) (a : Arcs) → i < 2 * size net → a ≡ arcs_of (own net.rels i) → left i rs ≡ a ∷ left (i + 1) rs
   left_own i rs a h e =
       ap (λ (ts : List Transition). map arcs_of (ts ++ concat_map (extra net.rels) rs)) (first_own i h)
       ∙ ap (λ (b : Arcs). b ∷ left (i + 1) rs) (sym e)
@@ -114,6 +115,16 @@ module _ (net : Net) where
     pub left_none : (triples : List (List ℕ)) → length triples ≡ 0 → left i (relations_of triples) ≡ []
     left_none [] e = extras_alone []
     left_none (t ∷ triples) e = absurd (omega arith)
+
+-- a context's own transition, which is made by its number, comes first
+pub own_first : (walk : Transitions) (a : Arcs) {most : ℕ} → most ≡ size (net_of walk.list.now) → walk.next < 2 * most
+    → a ≡ arcs_of (own (net_of walk.list.now).rels walk.next)
+    → rest walk ≡ a ∷ left (net_of walk.list.now) (walk.next + 1) (relations_of walk.relations.now)
+own_first walk a m h e = left_own (net_of walk.list.now) walk.next (relations_of walk.relations.now) a (omega (arith, m, h)) e
+
+-- the context whose own transition has this number
+pub own_context : (list : CheckedList) (i : ℕ) → i < 2 * size (net_of list) → i / 2 < 48
+own_context list i h = omega (arith, few_contexts (size (net_of list)) (length list.relations.now) list.sizes)
 
 -- how many there are at most
 pub few_transitions : (list : CheckedList) → length (transitions (net_of list)) ≤ 192

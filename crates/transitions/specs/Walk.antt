@@ -26,7 +26,7 @@ to_come walk =
     drop walk.next (own_transitions (net_of walk.list.now))
     ++ concat_map (extra (net_of walk.list.now).rels) (relations_of walk.relations.now)
 
--- and their words
+-- and these, as they are in the code
 abbrev pub rest : Transitions → List Arcs
 rest walk = map arcs_of (to_come walk)
 

@@ -1,4 +1,4 @@
-//! The transitions of a net one by one, each as words. The rules stand in docs/MACHINE.md,
+//! The transitions of a net one by one, each as sets. The rules stand in docs/MACHINE.md,
 //! "Transitions".
 #![tactic(auto)]
 
@@ -6,24 +6,27 @@ ghost use Rattle.std.specs.Prelude.{◌≡◌};
 
 mod counts;
 mod own;
+mod priority;
 mod roles;
 mod walk;
 
 pub use counts::count;
+pub use priority::Priority;
+use sets::Set;
 pub use walk::Transitions;
 
-/// One transition: its priority, and a word for each of its eight sets.
-#[derive(Clone, Copy, Debug, PartialEq, Eq)]
+/// One transition: its priority, and its eight sets.
+#[derive(Clone, Copy, Debug, Default, PartialEq, Eq)]
 pub struct Arcs {
-    pub priority: u8,
-    pub takes_context: u64,
-    pub takes_pr: u64,
-    pub takes_not: u64,
-    pub gives_context: u64,
-    pub gives_pr: u64,
-    pub gives_not: u64,
-    pub inhib_context: u64,
-    pub inhib_pr: u64,
+    pub priority: Priority,
+    pub takes_context: Set,
+    pub takes_pr: Set,
+    pub takes_not: Set,
+    pub gives_context: Set,
+    pub gives_pr: Set,
+    pub gives_not: Set,
+    pub inhib_context: Set,
+    pub inhib_pr: Set,
 }
 
 impl Arcs {
@@ -34,6 +37,6 @@ impl Arcs {
     pub fn is_forced(self) -> bool
         ensures { result ≡ unasked self }
     {
-        self.takes_pr == 0 && self.takes_not == 0
+        self.takes_pr.is_empty() && self.takes_not.is_empty()
     }
 }

@@ -3,7 +3,7 @@ use mathlib.Core.Path.{◌≡◌, sym, ap, ◌∙◌}
 use native.Mathlib.Omega.{arith}
 use Rattle.model.specs.Image.{bytes}
 use Rattle.listing.specs.Hash.{hashed}
-use Rattle.listing.proofs.Steps.{hashed_nil, hashed_low}
+use Rattle.listing.proofs.Steps.{hashed_low}
 use Rattle.listing.proofs.hash_number.Goals as goal
 
 pub loop-preserved : goal.loop-preserved
@@ -18,4 +18,4 @@ pub returns : goal.returns
 returns c =
     let here = c.loop in
     let e : c.args.k - here.counter ≡ 0 = omega arith in
-    sym (hashed_nil here.sum) ∙ sym (ap (λ (j : ℕ). hashed here.sum (bytes j here.rest)) e) ∙ here.invariant
+    sym (ap (λ (j : ℕ). hashed here.sum (bytes j here.rest)) e) ∙ here.invariant

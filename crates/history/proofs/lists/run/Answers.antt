@@ -1,24 +1,19 @@
-use Rattle.std.proofs.Common.{ap, ◌∙◌}
+use Rattle.std.proofs.Common.{[], ℕ, ap, ◌∙◌}
+use Rattle.std.specs.Prelude.{Option}
+use Rattle.std.specs.Option.{unwrap_or}
 use Rattle.engine.specs.View.{state}
-use Rattle.history.proofs.Ran.{ran_none, known_calls, ran_some, some_written, no_calls_where, calls_where}
-use Rattle.std.proofs.Common.{[]}
-use Rattle.std.specs.List.{list_any}
-use Rattle.history.specs.Encoding.{is_unknown}
+use Rattle.history.proofs.Ran.{ran_none, ran_some, some_written}
 use Rattle.history.proofs.lists.run.Goals as goal
 
-pub returns-then-not-are_calls-clause-ran : goal.returns-then-not-are_calls-clause-ran
-returns-then-not-are_calls-clause-ran c =
-    ran_none c.args.image.now c.args.calls.now c.args.out.now (no_calls_where _ _ c.are_calls.ensures c.if-not-are_calls.true)
-
-pub run_on-requires : goal.run_on-requires
-run_on-requires c =
-    ap (list_any is_unknown) c.as_chunks.ensures.front
-    ∙ known_calls c.args.calls.now (calls_where _ _ c.are_calls.ensures c.if-not-are_calls.false)
+pub returns-in_err-calls-clause-ran : goal.returns-in_err-calls-clause-ran
+returns-in_err-calls-clause-ran c =
+    ap (λ (r : Option ℕ). record { written = unwrap_or r 0; output = c.args.out.now }) c.from_residual.ensures
+    ∙ ran_none c.args.image.now c.args.calls.now c.args.out.now c.in_err-calls.ensures.none
 
 pub returns-clause-ran : goal.returns-clause-ran
 returns-clause-ran c =
-    ran_some c.args.image.now c.args.calls.now c.args.out.now (state c.load-loaded.result.engine []) c.as_chunks.result.0.now _ _
-    (calls_where _ _ c.are_calls.ensures c.if-not-are_calls.false) c.load-loaded.ensures.engine c.as_chunks.ensures.front c.run_on.ensures
+    ran_some c.args.image.now c.args.calls.now c.args.out.now (state c.load-loaded.result.engine []) c.in_ok-calls.calls.now _ _ c.in_ok-calls.ensures.some
+    c.load-loaded.ensures.engine c.in_ok-calls.ensures.calls c.run_on.ensures
 
 pub returns-clause-some : goal.returns-clause-some
 returns-clause-some c = some_written _ _ _ _ _ c.run_on.ensures

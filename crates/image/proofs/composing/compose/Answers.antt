@@ -1,8 +1,12 @@
 use Rattle.std.proofs.Common.{◌≡◌, ℕ, List, ◌++◌, drop, length, length-take-le, rules, arith, sym, ap, ap₂, ◌∙◌}
-use Rattle.model.specs.Image.{edition_1, image, given_net}
+use Rattle.model.specs.Sets.{concat_map}
+use Rattle.model.specs.Relations.{Net}
+use Rattle.model.specs.Image.{edition_1, image, relation_bytes, given_net}
+use Rattle.relations.specs.Lists.{net_of}
 use Rattle.image.specs.Trailers.{trailer_as, trailer_for}
 use Rattle.image.proofs.Verdicts.{list_refused, output_refused, written}
-use Rattle.image.proofs.Givens.{whole_by, parts_sized, image_sized}
+use Rattle.image.proofs.Layouts.{bytes_each}
+use Rattle.image.proofs.Givens.{whole_by, given_bytes, parts_sized, image_sized}
 use Rattle.image.proofs.composing.compose.Goals as goal
 
 pub returns-in_err-list : goal.returns-in_err-list
@@ -15,9 +19,12 @@ returns-in_err-list c =
       output = sym q.output;
     }
 
-pub write_image-requires-clause-whole : goal.write_image-requires-clause-whole
-write_image-requires-clause-whole c =
-    whole_by c.args.capacities.now c.args.relations.now (sym c.in_ok-list.ensures.verdict)
+pub write_image-requires-clause-relations : goal.write_image-requires-clause-relations
+write_image-requires-clause-relations c =
+    let a = c.args in
+    let whole = whole_by a.capacities.now a.relations.now (sym c.in_ok-list.ensures.verdict) in
+    sym (given_bytes a.capacities.now a.relations.now whole (bytes_each a.relations.now (search rules)))
+    ∙ ap (λ (n : Net). concat_map (relation_bytes edition_1) n.rels) (sym c.in_ok-list.ensures.net)
 
 pub write_image-requires-clause-room : goal.write_image-requires-clause-room
 write_image-requires-clause-room c =
@@ -25,7 +32,7 @@ write_image-requires-clause-room c =
     let whole = whole_by a.capacities.now a.relations.now (sym c.in_ok-list.ensures.verdict) in
     length-take-le _ a.out.now c.if-out-size.false
     ∙ c.image_size-size.ensures
-    ∙ parts_sized a.capacities.now a.relations.now whole (trailer_as c.of_list-trailer.result) (c.of_list-trailer.ensures ∙ ap trailer_for c.in_ok-list.ensures.net)
+    ∙ parts_sized a.capacities.now a.relations.now whole (net_of c.in_ok-list.list) c.in_ok-list.ensures.net (trailer_as c.of_list-trailer.result) c.of_list-trailer.ensures
 
 pub returns-then-out-size : goal.returns-then-out-size
 returns-then-out-size c =

@@ -1,28 +1,42 @@
-use Rattle.std.proofs.Common.{◌≡◌, ℕ, ◌/◌, ◌*◌, length, map, rules, tests, arith, ap, sym, ◌∙◌}
-use Rattle.std.proofs.lemmas.Iterator.{YieldsList-from_slice, YieldsList-from_zip}
-use Rattle.std.proofs.lemmas.Iterator.Consumers.{YieldsList-from_first}
-use Rattle.std.proofs.lemmas.Iterator.Search.{all_from_yields_List}
+use Rattle.std.proofs.Common.{◌≡◌, List, ℕ, true, false, length, take, map, arith, ap, ◌∙◌}
 use Rattle.std.proofs.lemmas.List.{length-map}
-use Rattle.std.specs.Simd.{first_chunks}
-use Rattle.model.specs.Sets.{equal_lists}
+use Rattle.model.specs.Sets.{concat_map, equal_lists}
 use Rattle.model.specs.Transitions.{transitions}
 use Rattle.relations.specs.Lists.{net_of}
 use Rattle.transitions.specs.Arcs.{arcs_of}
 use Rattle.transitions.specs.Walk.{rest}
 use Rattle.image.specs.Records.{record_of}
-use Rattle.image.proofs.Blocks.{records_are, pieces_same}
+use Rattle.image.proofs.Blocks.{records_are, same_more, same_all}
 use Rattle.image.proofs.section.same_records.Goals as goal
+
+pub loop-arcs-init : goal.loop-arcs-init
+loop-arcs-init c =
+    let net = net_of c.args.list.now in
+    let first : rest c.into_iter-arcs-iterator.result ≡ map arcs_of (transitions net) = ap rest c.into_iter-arcs-iterator.ensures.into_iter_gives ∙ c.of-arcs-items.ensures.words in
+    let n = length-map (transitions net) arcs_of in
+    record {
+      sized = omega (arith, ap length first, n, c.requires);
+      same = ap (equal_lists c.args.section.now) (ap (concat_map record_of) first ∙ records_are net);
+    }
+
+pub loop-arcs-preserved : goal.loop-arcs-preserved
+loop-arcs-preserved c =
+    let l = c.loop-arcs in
+    let here : true ≡ equal_lists (take 49 l.left.now) (record_of c.in-Some.arcs) = cc in
+    record {
+      sized = omega (arith, c.split_at.ensures.back_len, ap length c.in-Some.ensures.steps, l.invariant.sized);
+      same =
+          ap (λ (behind : List ℕ). equal_lists behind (concat_map record_of (rest c.next.new.self))) c.split_at.ensures.back
+          ∙ same_more l.left.now c.in-Some.arcs (rest l.arcs-iterator) (rest c.next.new.self) c.in-Some.ensures.steps l.invariant.sized true here l.invariant.same;
+    }
+
+pub returns-then-not-same_record : goal.returns-then-not-same_record
+returns-then-not-same_record c =
+    let l = c.loop-arcs in
+    let here : false ≡ equal_lists (take 49 l.left.now) (record_of c.in-Some.arcs) = cc in
+    same_more l.left.now c.in-Some.arcs (rest l.arcs-iterator) (rest c.next.new.self) c.in-Some.ensures.steps l.invariant.sized false here l.invariant.same
 
 pub returns : goal.returns
 returns c =
-    let a = c.args in
-    let arcs = map arcs_of (transitions (net_of a.list.now)) in
-    let n = length-map (transitions (net_of a.list.now)) arcs_of in
-    let k : length a.section.now / 49 ≡ length arcs = omega (arith, n, c.requires) in
-    all_from_yields_List (λ p. equal_lists p.1 (record_of p.0)) c.all.new.self _ c.all.result c.all.ensures.ran
-    (YieldsList-from_zip
-    (YieldsList-from_first (λ x. x) rest {s = c.zip.result.a} arcs (ap rest c.zip.ensures.first ∙ c.of.ensures.words))
-    (YieldsList-from_slice {s = c.zip.result.b} (first_chunks 49 (length arcs) a.section.now) (c.zip.ensures.second.0 ∙ c.as_chunks.ensures.front ∙ ap (λ (k : ℕ). first_chunks 49 k a.section.now) k)))
-    (λ x b q k. search (rules, tests))
-    ∙ pieces_same arcs a.section.now (c.requires ∙ ap (λ (k : ℕ). 49 * k) (sym n))
-    ∙ ap (equal_lists a.section.now) (records_are (net_of a.list.now))
+    let l = c.loop-arcs in
+    same_all l.left.now (rest l.arcs-iterator) c.in-None.ensures.steps.0 l.invariant.sized ∙ l.invariant.same

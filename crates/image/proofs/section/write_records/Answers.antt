@@ -1,4 +1,4 @@
-use Rattle.std.proofs.Common.{◌≡◌, length, map, arith, ap, ◌∙◌}
+use Rattle.std.proofs.Common.{◌≡◌, ℕ, ◌+◌, length, map, arith, ap, ◌∙◌}
 use Rattle.std.proofs.lemmas.List.{length-map}
 use Rattle.model.specs.Sets.{concat_map}
 use Rattle.model.specs.Transitions.{transitions}
@@ -29,7 +29,7 @@ loop-arcs-preserved c =
             arith,
             n,
             l.invariant.room,
-            length_written l.out c.write_record.new.out l.at (omega (arith, n, l.invariant.room)) (ap length c.write_record.ensures),
+            length_written l.out c.write_record.new.out l.at (l.at + 49) (ap (λ (k : ℕ). l.at + k) (ap length c.write_record.ensures)) (omega (arith, n, l.invariant.room)),
           );
       all = written_more l.out c.write_record.new.out l.at c.in-Some.arcs (rest l.arcs-iterator) (rest c.next.new.self) c.in-Some.ensures.steps c.write_record.ensures (omega (arith, l.invariant.room)) l.invariant.all;
     }

@@ -5,4 +5,4 @@ use Rattle.image.proofs.laid.LaidImage.list.Goals as goal
 pub returns : goal.returns
 returns c =
     let l = c.args.self.now in
-    rw c.from.ensures (list_found l.bytes.now (trailer_as l.trailer) l.laid)
+    rw c.start.ensures (list_found l.bytes.now (trailer_as l.trailer) l.laid)

@@ -5,4 +5,4 @@ use Rattle.image.proofs.laid.LaidImage.relations.Goals as goal
 pub returns-clause-net : goal.returns-clause-net
 returns-clause-net c =
     let l = c.args.self.now in
-    rw (c.from.ensures, c.from-2.ensures) (relations_are l.bytes.now (trailer_as l.trailer) l.laid)
+    rw (c.start.ensures, c.start-2.ensures) (relations_are l.bytes.now (trailer_as l.trailer) l.laid)

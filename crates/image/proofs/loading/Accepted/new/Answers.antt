@@ -1,6 +1,6 @@
 use Rattle.std.proofs.Common.{true, false, rules, sym, ap, ◌∙◌}
 use Rattle.model.specs.Image.{edition_1, given_net}
-use Rattle.image.proofs.Loads.{layout_refused, list_refused, by_records, same_found, test_found, part_found}
+use Rattle.image.proofs.Loads.{layout_refused, list_found_refused, records_tested, same_found, part_found}
 use Rattle.image.proofs.loading.Accepted.new.Goals as goal
 
 pub returns-in_err-image-clause-verdict : goal.returns-in_err-image-clause-verdict
@@ -10,23 +10,16 @@ returns-in_err-image-clause-verdict c =
 
 pub returns-in_err-list-clause-verdict : goal.returns-in_err-list-clause-verdict
 returns-in_err-list-clause-verdict c =
-    let img = c.args.image.now in
-    let laid = c.in_ok-image.image in
-    let found = c.in_ok-image.ensures.image in
-    let bs = c.relations.result.now in
-    let same = same_found img laid found.0 found.1 bs c.capacities.ensures c.relations.ensures.net in
-    let q = list_refused img (sym c.in_ok-image.ensures.verdict) c.capacities.result.now bs same c.relations.ensures.whole c.in_err-list.field-0.0 (sym c.in_err-list.ensures.verdict) in
+    let q =
+    list_found_refused c.args.image.now c.in_ok-image.image c.in_ok-image.ensures.image c.relations.result.now c.capacities.ensures c.relations.ensures.net c.relations.ensures.whole
+    (sym c.in_ok-image.ensures.verdict) c.in_err-list.field-0.0 (sym c.in_err-list.ensures.verdict) in
     search (rules, q.verdict)
 
 pub returns-then-not-has_records_of-clause-verdict : goal.returns-then-not-has_records_of-clause-verdict
 returns-then-not-has_records_of-clause-verdict c =
-    let img = c.args.image.now in
-    let laid = c.in_ok-image.image in
-    let found = c.in_ok-image.ensures.image in
-    let bs = c.relations.result.now in
-    let same = same_found img laid found.0 found.1 bs c.capacities.ensures c.relations.ensures.net in
-    let q = by_records img (sym c.in_ok-image.ensures.verdict) c.capacities.result.now bs same c.relations.ensures.whole (sym c.in_ok-list.ensures.verdict)
-    false (sym c.if-not-has_records_of.true ∙ test_found img laid found.0 found.1 c.has_records_of.ensures) in
+    let q =
+    records_tested c.args.image.now c.in_ok-image.image c.in_ok-image.ensures.image c.relations.result.now c.capacities.ensures c.relations.ensures.net c.relations.ensures.whole
+    (sym c.in_ok-image.ensures.verdict) (sym c.in_ok-list.ensures.verdict) false (sym c.if-not-has_records_of.true ∙ c.has_records_of.ensures) in
     sym q.verdict
 
 pub returns : goal.returns
@@ -34,15 +27,14 @@ returns c =
     let img = c.args.image.now in
     let laid = c.in_ok-image.image in
     let found = c.in_ok-image.ensures.image in
-    let caps = c.capacities.result.now in
     let bs = c.relations.result.now in
-    let same = same_found img laid found.0 found.1 bs c.capacities.ensures c.relations.ensures.net in
-    let q = by_records img (sym c.in_ok-image.ensures.verdict) caps bs same c.relations.ensures.whole (sym c.in_ok-list.ensures.verdict)
-    true (sym c.if-not-has_records_of.false ∙ test_found img laid found.0 found.1 c.has_records_of.ensures) in
+    let q =
+    records_tested img laid found bs c.capacities.ensures c.relations.ensures.net c.relations.ensures.whole
+    (sym c.in_ok-image.ensures.verdict) (sym c.in_ok-list.ensures.verdict) true (sym c.if-not-has_records_of.false ∙ c.has_records_of.ensures) in
     record {
       verdict = sym q.verdict;
       image = found.0;
       same = c.in_ok-list.ensures.net ∙ ap (λ cs. given_net edition_1 cs bs) c.capacities.ensures ∙ c.relations.ensures.net;
-      net = c.in_ok-list.ensures.net ∙ same ∙ sym q.net_is;
-      part = part_found img laid found.0 found.1 ∙ sym q.part_is;
+      net = c.in_ok-list.ensures.net ∙ same_found img laid found bs c.capacities.ensures c.relations.ensures.net ∙ sym q.net_is;
+      part = part_found img laid found ∙ sym q.part_is;
     }

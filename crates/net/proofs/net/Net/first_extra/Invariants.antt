@@ -6,6 +6,6 @@ use Rattle.net.proofs.net.Net.first_extra.Given as goal
 abbrev pub invariant-loop-i : goal.invariant-loop-i
 invariant-loop-i l =
     record {
-      first : Finds l.low (2 * l.self.contexts) l.i (ready_row l.self.table l.marked l.spare);
+      first : Finds l.late (2 * l.self.contexts) l.i (ready_row l.self.table l.marked l.spare);
       calm : Finds None (2 * l.self.contexts) l.i (urgent_row l.self.table l.marked l.spare);
     }

@@ -8,6 +8,6 @@ use Rattle.net.proofs.net.Net.next.Goals as goal
 pub returns : goal.returns
 returns c =
     let net = c.args.self.now in
-    let then : MatchOption c.first_own.result (PrefersUrgent net c.args.marked c.args.spare c.or_else.result) (λ i. c.or_else.result ≡ Some i) =
+    let then : MatchOption c.first_own.result (PrefersUrgent net c.args.marked.now c.args.spare c.or_else.result) (λ i. c.or_else.result ≡ Some i) =
     search (rules, c.or_else.ensures) in
-    chooses_first net c.args.marked c.args.spare c.first_own.result c.or_else.result c.first_own.ensures then
+    chooses_first net c.args.marked.now c.args.spare c.first_own.result c.or_else.result c.first_own.ensures then

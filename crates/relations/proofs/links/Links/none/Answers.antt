@@ -1,6 +1,0 @@
-use Rattle.relations.proofs.Linking.{linked_none}
-use Rattle.relations.proofs.links.Links.none.Goals as goal
-
-pub returns : goal.returns
-returns c =
-    linked_none
