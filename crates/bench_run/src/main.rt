@@ -9,13 +9,16 @@ use std::rt::Files;
 
 /// The engine of the net in bench.net. A missing or unreadable file reads as an empty one, which is refused and gives the empty net.
 fn load(rt: &impl Files) -> Engine {
+    let mut engine = Engine::empty();
     let Ok(mut file) = File::open(rt, "bench.net") else {
-        return Engine::empty();
+        return engine;
     };
     // Longer than any image, of which the longest has 9,752 bytes: the first bytes of a file that does not fit are refused, as the whole would be.
     let mut bytes: [u8; 16384] = listing::filled(0);
     let n = listing::fill(&mut file, &mut bytes);
-    image::load(&bytes[..n]).engine
+    // a refused image leaves the engine of the net without contexts
+    let _ = image::load_into(&bytes[..n], &mut engine);
+    engine
 }
 
 fn main(rt: HostRuntime) -> io::Result<()> {

@@ -3,12 +3,13 @@ ghost use Rattle.std.specs.Prelude.{◌≡◌, ◌≤◌, [], length};
 ghost use Rattle.std.specs.List.{slice_get};
 
 use crate::open_list::{Entry, OpenList};
+use crate::snapshot::Snapshot;
 use model::{Answer, Call, Refusal, Relation, Request, Tally, Verdict};
 use net::Net;
-use relations::CheckedList;
+use relations::{CheckedList, FittingList};
 
 /// A net, composed once, with its counts, its open list and its totals.
-#[derive(Clone, Debug, Drop)]
+#[derive(Clone, Copy, Debug)]
 pub struct Engine {
     net: Net,
     capacities: [u8; 48],
@@ -27,6 +28,9 @@ impl Engine {
     ghost use Rattle.relations.specs.Lists;
     ghost use Rattle.net.specs.Nets.{net_with};
     ghost use Rattle.engine.specs.Readings.{result_of};
+    ghost use Rattle.std.specs.Prelude.{List, true, false, IfNone, IfSome};
+    ghost use Rattle.model.specs.declared.Request.{Request};
+    ghost use Rattle.engine.specs.Snapshots.{sound, state_in};
 
     // The machine of a net before its first call: no tokens, nothing open, no totals.
     fn fresh(net: Net, capacities: [u8; 48]) -> Self
@@ -43,9 +47,40 @@ impl Engine {
 
     /// The machine of a list's net before its first call.
     pub fn new(list: &CheckedList<'_>) -> Self
-        ensures { state result [] ≡ fresh (Lists.net_of list.now) }
+        ensures { state result [] ≡ fresh (Lists.net_of list.now.fitting) }
     {
-        Engine::fresh(Net::new(list), net::padded(list.capacities(), 0))
+        let mut engine = Engine::empty();
+        engine.set(list.fitting());
+        engine
+    }
+
+    /// Becomes the machine of a list's net before its first call, where it is: an engine is large, and moving it takes time and stack.
+    #[inline(always)]
+    pub fn set(&mut self, list: &FittingList<'_>)
+        ensures { state self.new [] ≡ fresh (Lists.net_of list.now) }
+    {
+        self.net.set(list);
+        self.capacities = net::padded(list.capacities(), 0);
+        self.begin();
+    }
+
+    /// Becomes the machine of the net without contexts.
+    #[inline(always)]
+    pub fn clear(&mut self)
+        ensures { state self.new [] ≡ fresh empty_net }
+    {
+        self.net.clear();
+        self.begin();
+    }
+
+    // Back to before the first call.
+    #[inline(always)]
+    fn begin(&mut self)
+        ensures { state self.new [] ≡ fresh (net_of self.old) }
+    {
+        self.counts = [0; 48];
+        OpenList::clear(&mut self.opened);
+        self.tally = Tally::default();
     }
 
     /// The machine of the net without contexts.
@@ -53,6 +88,63 @@ impl Engine {
         ensures { state result [] ≡ fresh empty_net }
     {
         Engine::fresh(Net::empty(), [0; 48])
+    }
+
+    /// The engine that a sound snapshot stands for; none where it is not sound.
+    pub fn of_sound(snapshot: &Snapshot) -> Option<Self>
+        ensures none { IfNone result (sound snapshot.now ≡ false) }
+        ensures some { IfSome result (λ engine. sound snapshot.now ≡ true) }
+        ensures state { IfSome result (λ engine. (settled : List Request) → state engine settled ≡ state_in snapshot.now settled) }
+    {
+        let capacities = snapshot.capacities.get(..snapshot.contexts)?;
+        let relations = snapshot.relations.get(..snapshot.relation_count)?;
+        let list = FittingList::new(capacities, relations)?;
+        let opened = OpenList::of(
+            &snapshot.requests,
+            &snapshot.markings,
+            snapshot.first,
+            snapshot.opened,
+        )?;
+        Some(Engine {
+            net: Net::new(&list),
+            capacities: snapshot.capacities,
+            counts: snapshot.counts,
+            opened,
+            tally: snapshot.tally,
+        })
+    }
+
+    /// The engine that a snapshot stands for.
+    pub fn of(snapshot: &Snapshot) -> Self
+        ensures { (settled : List Request) → state result settled ≡ state_in snapshot.now settled }
+    {
+        match Engine::of_sound(snapshot) {
+            Some(engine) => engine,
+            None => Engine {
+                tally: snapshot.tally,
+                ..Engine::empty()
+            },
+        }
+    }
+
+    /// All that the engine holds, as plain data.
+    pub fn snapshot(&self) -> Snapshot
+        ensures sound { sound result ≡ true }
+        ensures state { (settled : List Request) → state_in result settled ≡ state self.now settled }
+    {
+        let relations = self.net.relations();
+        Snapshot {
+            contexts: self.net.contexts(),
+            relation_count: relations.len(),
+            capacities: self.capacities,
+            relations: net::padded(relations, [0; 3]),
+            counts: self.counts,
+            requests: *self.opened.requests(),
+            markings: *self.opened.markings(),
+            first: self.opened.first(),
+            opened: self.opened.len(),
+            tally: self.tally,
+        }
     }
 
     /// How many contexts there are.

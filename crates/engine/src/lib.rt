@@ -3,6 +3,8 @@
 
 mod engine;
 mod open_list;
+mod snapshot;
 
 pub use engine::Engine;
 pub use open_list::{Entry, OpenList};
+pub use snapshot::Snapshot;

@@ -39,6 +39,8 @@ pub fn run(image: &[u8], calls: &[u8], out: &mut [u8]) -> Option<usize>
     ensures some { IfSome result (λ written. 0 < written) }
 {
     let calls = known_calls(calls)?;
-    let mut loaded = image::load(image);
-    run_on(&mut loaded.engine, calls, out)
+    let mut engine = Engine::empty();
+    // a refused image leaves the engine of the net without contexts
+    let _ = image::load_into(image, &mut engine);
+    run_on(&mut engine, calls, out)
 }

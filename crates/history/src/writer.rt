@@ -19,6 +19,8 @@ impl<'a> Writer<'a> {
     }
 
     /// Writes the bytes behind those that were written before.
+    // Inlined, so that an answer's five bytes are stored and not moved by a call.
+    #[inline(always)]
     pub fn put(&mut self, bytes: &[u8])
         requires { self.old.written + length bytes.now ≤ length self.old.out.now }
         ensures same_output { self.new.out.ghost_name ≡ self.old.out.ghost_name }

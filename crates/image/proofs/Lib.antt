@@ -8,3 +8,7 @@ pub mod Givens
 pub mod Loads
 pub mod Lists
 pub mod Roundtrip
+pub mod Granting
+pub mod Ranges
+pub mod Numbers
+pub mod Puts

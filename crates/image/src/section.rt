@@ -7,7 +7,7 @@ ghost use Rattle.model.specs.Image.{edition_1, records};
 ghost use Rattle.relations.specs.Lists.{net_of};
 ghost use Rattle.image.specs.Records.{sets_of, record_of};
 
-use relations::CheckedList;
+use relations::FittingList;
 use sets::Set;
 use transitions::{Arcs, Transitions};
 
@@ -81,7 +81,7 @@ fn same_record(bytes: &[u8], arcs: &Arcs) -> bool
 /// The records of a list's transitions, over as many bytes.
 // Each at its index: of parts that are lent in a loop it is not known what the whole ends as.
 #[tactic(auto, unfolding(model::specs::Image::records))]
-pub fn write_records(out: &mut [u8], list: &CheckedList<'_>)
+pub fn write_records(out: &mut [u8], list: &FittingList<'_>)
     requires { length out.old ≡ 49 * length (transitions (net_of list.now)) }
     ensures { out.new ≡ records edition_1 (net_of list.now) }
 {
@@ -94,7 +94,7 @@ pub fn write_records(out: &mut [u8], list: &CheckedList<'_>)
 
 /// Whether the bytes are the records of a list's transitions.
 // Cut off one by one: over a zip of the transitions and the records a load takes 18,900 instructions in place of 16,500.
-pub fn same_records(section: &[u8], list: &CheckedList<'_>) -> bool
+pub fn same_records(section: &[u8], list: &FittingList<'_>) -> bool
     requires { length section.now ≡ 49 * length (transitions (net_of list.now)) }
     ensures { result ≡ equal_lists section.now (records edition_1 (net_of list.now)) }
 {

@@ -16,12 +16,16 @@ triple r = r.kind ∷ r.a ∷ r.b ∷ []
 abbrev pub load_hash : Net → List ℕ → ℕ
 load_hash net records = hashed (hashed (hashed 0 net.caps) (concat_map triple net.rels)) records
 
--- verdict, contexts, relations, the length of the records, and the hash, parted by one blank
-abbrev pub load_text : Verdict → Net → List ℕ → List ℕ
-load_text verdict net records =
-    decimal (verdict_number verdict)
+-- a verdict's number, contexts, relations, the length of the records, and the hash, parted by one blank
+abbrev pub numbered_text : ℕ → Net → List ℕ → List ℕ
+numbered_text number net records =
+    decimal number
     ++ (32 ∷ (decimal (size net)
     ++ (32 ∷ (decimal (relation_count net)
     ++ (32 ∷ (decimal (length records)
     ++ (32 ∷ (decimal (load_hash net records)
     ++ (10 ∷ [])))))))))
+
+-- the same of a verdict
+abbrev pub load_text : Verdict → Net → List ℕ → List ℕ
+load_text verdict = numbered_text (verdict_number verdict)

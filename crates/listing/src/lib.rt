@@ -9,7 +9,7 @@ ghost use Rattle.listing.specs.Hash.{folded, hashed};
 
 mod loads;
 
-pub use loads::print_load;
+pub use loads::{print_load, print_numbered};
 use model::Refusal;
 use std::io::Read;
 

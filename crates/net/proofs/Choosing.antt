@@ -32,7 +32,6 @@ use Rattle.net.specs.Markings.{Shows}
 use Rattle.net.specs.Walks.{ready_row, urgent_row, movable, own_at, Finds, Prefers, FindsOwn, PrefersUrgent, Fires, Chooses}
 use Rattle.net.specs.declared.marked.Marked.{Marked}
 use Rattle.net.specs.declared.table.Table.{Table}
-use Rattle.net.specs.declared.net.Net.{Net}
 use Rattle.net.proofs.Finding.{own_passing, extra_passing}
 use Rattle.net.proofs.Readiness.{passes_ready}
 
@@ -218,15 +217,15 @@ module _ (net : model.Net) (fits : Fits net) (few : size net ≤ 48) {table : Ta
         next_other n spare m ts (two_priorities net) (none_passes urgent_here ts (λ j l. not_urgent (get_or ts j blank) (none j l)))
         ∙ none_passes ready_here ts none
 
--- the same of the arrays of a composed net
-module _ (net : Net) (s : Marked) (w : ℕ) where
-  module _ (whole : model.Net) (m : Marking) (sized : size whole ≡ net.contexts) (fits : Fits whole) (tab : Stores net.table (transitions whole))
-      (sh : Shows net.contexts m s) (room : w ≡ number 64 (upto net.contexts (below_capacity whole m))) where
-    abbrev same : net.contexts ≡ size whole
+-- the same of any arrays, for every net that stands in them
+module _ {n : ℕ} (few : n ≤ 48) (table : Table) (s : Marked) (w : ℕ) where
+  module _ (whole : model.Net) (m : Marking) (sized : size whole ≡ n) (fits : Fits whole) (tab : Stores table (transitions whole))
+      (sh : Shows n m s) (room : w ≡ number 64 (upto n (below_capacity whole m))) where
+    abbrev same : n ≡ size whole
     same = sym sized
 
-    few : size whole ≤ 48
-    few = omega (arith, sized, net.few_contexts)
+    few_of : size whole ≤ 48
+    few_of = omega (arith, sized, few)
 
     abbrev shown : Shows (size whole) m s
     shown = subst (λ (k : ℕ). Shows k m s) same sh
@@ -234,18 +233,18 @@ module _ (net : Net) (s : Marked) (w : ℕ) where
     abbrev below : w ≡ number 64 (upto (size whole) (below_capacity whole m))
     below = subst (λ (k : ℕ). w ≡ number 64 (upto k (below_capacity whole m))) same room
 
-    with_own : (i : ℕ) → FindsOwn net s w (Some i) → Fires (Some i) whole m
+    with_own : (i : ℕ) → FindsOwn n table s w (Some i) → Fires (Some i) whole m
     with_own i f =
-        fires_own whole fits few tab shown below i (subst (λ (k : ℕ). Finds (Some i) 0 (2 * k) (own_at net.table s w)) same f)
+        fires_own whole fits few_of tab shown below i (subst (λ (k : ℕ). Finds (Some i) 0 (2 * k) (own_at table s w)) same f)
 
-    with_extra : FindsOwn net s w None → (r : Option ℕ) → PrefersUrgent net s w r → Fires r whole m
+    with_extra : FindsOwn n table s w None → (r : Option ℕ) → PrefersUrgent n table s w r → Fires r whole m
     with_extra f r p =
-        fires_extra whole fits few tab shown below (subst (λ (k : ℕ). Finds None 0 (2 * k) (own_at net.table s w)) same f) r
-        (subst (λ (k : ℕ). Prefers r (2 * k) net.table.count (urgent_row net.table s w) (ready_row net.table s w)) same p)
+        fires_extra whole fits few_of tab shown below (subst (λ (k : ℕ). Finds None 0 (2 * k) (own_at table s w)) same f) r
+        (subst (λ (k : ℕ). Prefers r (2 * k) table.count (urgent_row table s w) (ready_row table s w)) same p)
 
   -- the first own one that is ready, and else one of the others
-  pub chooses_first : (own r : Option ℕ) → FindsOwn net s w own → MatchOption own (PrefersUrgent net s w r) (λ i. r ≡ Some i) → Chooses net s w r
+  pub chooses_first : (own r : Option ℕ) → FindsOwn n table s w own → MatchOption own (PrefersUrgent n table s w r) (λ i. r ≡ Some i) → Chooses n table s w r
   chooses_first (Some i) r f e =
-      rw e (record { passing = own_passing net s w i f; fires = λ whole m sized fits tab sh room. with_own whole m sized fits tab sh room i f })
+      rw e (record { passing = own_passing few table s w i f; fires = λ whole m sized fits tab sh room. with_own whole m sized fits tab sh room i f })
   chooses_first None r f p =
-      record { passing = extra_passing net s w r p; fires = λ whole m sized fits tab sh room. with_extra whole m sized fits tab sh room f r p }
+      record { passing = extra_passing few table s w r p; fires = λ whole m sized fits tab sh room. with_extra whole m sized fits tab sh room f r p }

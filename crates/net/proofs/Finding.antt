@@ -1,6 +1,6 @@
 -- The transitions that the walk finds: of the contexts that can move, the first that is ready; of the others, the first of the higher priority.
 -- Assumes nothing.
-use Prim.Native.Nat.{ℕ, ◌+◌, ◌*◌, ◌/◌, ◌≤◌, ◌<◌}
+use Prim.Native.Nat.{ℕ, ◌+◌, ◌-◌, ◌*◌, ◌/◌, ◌≤◌, ◌<◌}
 use mathlib.Core.Bool.{Bool, true, false, ◌&&◌, not}
 use mathlib.Core.Path.{◌≡◌, sym, ap, ◌∙◌}
 use mathlib.Core.Logic.{inl, inr}
@@ -25,22 +25,18 @@ use Rattle.net.specs.Tables.{row}
 use Rattle.net.specs.Walks.{passes, ready_row, urgent_row, movable, own_at, Finds, Prefers, FindsOwn, PrefersUrgent, Passing}
 use Rattle.net.specs.declared.marked.Marked.{Marked}
 use Rattle.net.specs.declared.table.Table.{Table}
-use Rattle.net.specs.declared.net.Net.{Net}
 
 -- the contexts that are left of those that can move: no transition of the others can fire
-pub record Left (net : Net) (s : Marked) (spare left : ℕ) : Type 0 where
-  pub inside : (c : ℕ) → c < 64 → members left c ≡ true → (c < net.contexts) × (movable s spare c ≡ true)
-  pub others : (j : ℕ) → j < 2 * net.contexts → members left (j / 2) ≡ false → own_at net.table s spare j ≡ false
+pub record Left (n : ℕ) (table : Table) (s : Marked) (spare left : ℕ) : Type 0 where
+  pub inside : (c : ℕ) → c < 64 → members left c ≡ true → (c < n) × (movable s spare c ≡ true)
+  pub others : (j : ℕ) → j < 2 * n → members left (j / 2) ≡ false → own_at table s spare j ≡ false
 
-module _ (net : Net) (s : Marked) (spare : ℕ) where
-  abbrev n : ℕ
-  n = net.contexts
-
+module _ {n : ℕ} (few : n ≤ 48) (table : Table) (s : Marked) (spare : ℕ) where
   abbrev ready : ℕ → Bool
-  ready = ready_row net.table s spare
+  ready = ready_row table s spare
 
   -- at first all are left
-  pub left_start : {able left : ℕ} → able ≡ number 64 (movable s spare) → left ≡ number 64 (upto n (members able)) → Left net s spare left
+  pub left_start : {able left : ℕ} → able ≡ number 64 (movable s spare) → left ≡ number 64 (upto n (members able)) → Left n table s spare left
   left_start {able} {left} e f =
       record {
         inside = λ c h t.
@@ -48,21 +44,21 @@ module _ (net : Net) (s : Marked) (spare : ℕ) where
             (ltb-true c n (and_left (ltb c n) (members able c) both), sym (contained 64 (movable s spare) e c h) ∙ and_right (ltb c n) (members able c) both);
         others = λ j h t.
             let c : j / 2 < n = omega arith in
-            let low : j / 2 < 64 = omega (arith, net.few_contexts) in
+            let low : j / 2 < 64 = omega (arith, few) in
             let able_is = contained 64 (movable s spare) e (j / 2) low in
             let left_is = contained 64 (upto n (members able)) f (j / 2) low in
             let none : movable s spare (j / 2) ≡ false = sym able_is ∙ sym (ap (λ (b : Bool). b && members able (j / 2)) (lt-ltb (j / 2) n c)) ∙ sym left_is ∙ t in
             ap (λ (b : Bool). b && ready j) none;
       }
 
-  module _ {left : ℕ} (l : Left net s spare left) where
+  module _ {left : ℕ} (l : Left n table s spare left) where
     -- the transitions of a context that is left, where they are not ready
-    unready : (j : ℕ) → ready j ≡ false → own_at net.table s spare j ≡ false
+    unready : (j : ℕ) → ready j ≡ false → own_at table s spare j ≡ false
     unready j e = ap (λ (b : Bool). movable s spare (j / 2) && b) e ∙ and-false (movable s spare (j / 2))
 
     module _ {c after : ℕ} (next : GivesNext left (Some c) after) where
       -- one of the least context that is left, if those before it are not ready
-      pub own_found : (i : ℕ) → i / 2 ≡ c → ready i ≡ true → ((j : ℕ) → j / 2 ≡ c → j < i → ready j ≡ false) → FindsOwn net s spare (Some i)
+      pub own_found : (i : ℕ) → i / 2 ≡ c → ready i ≡ true → ((j : ℕ) → j / 2 ≡ c → j < i → ready j ≡ false) → FindsOwn n table s spare (Some i)
       unfolding Finds
       own_found i q e before =
           let here = l.inside c next.0 next.1.hit in (
@@ -77,14 +73,14 @@ module _ (net : Net) (s : Marked) (spare : ℕ) where
           )
 
       -- and the others are left, if neither of its two is ready
-      pub left_more : ready (2 * c) ≡ false → ready (2 * c + 1) ≡ false → Left net s spare after
+      pub left_more : ready (2 * c) ≡ false → ready (2 * c + 1) ≡ false → Left n table s spare after
       left_more act deac =
           record {
             inside = λ j h t. l.inside j h (and_left (members left j) (not (eqb j c)) (sym (left_members left c next.2 j h) ∙ t));
             others = λ j h t.
                 elim (cases_eq (j / 2) c) [
                   | inl same ↦ unready j (at j same)
-                  | inr other ↦ l.others j h (sym (and-true (members left (j / 2))) ∙ sym (ap (λ (b : Bool). members left (j / 2) && not b) (ne_eqb (j / 2) c other)) ∙ sym (left_members left c next.2 (j / 2) (omega (arith, net.few_contexts))) ∙ t)
+                  | inr other ↦ l.others j h (sym (and-true (members left (j / 2))) ∙ sym (ap (λ (b : Bool). members left (j / 2) && not b) (ne_eqb (j / 2) c other)) ∙ sym (left_members left c next.2 (j / 2) (omega (arith, few))) ∙ t)
                 ];
           }
         where
@@ -96,7 +92,7 @@ module _ (net : Net) (s : Marked) (spare : ℕ) where
               ]
 
     -- where none is left none of their transitions can fire
-    pub none_found : ((j : ℕ) → members left j ≡ false) → FindsOwn net s spare None
+    pub none_found : ((j : ℕ) → members left j ≡ false) → FindsOwn n table s spare None
     unfolding Finds
     none_found none j b h = l.others j h (none (j / 2))
 
@@ -116,6 +112,12 @@ module _ (f : ℕ → Bool) (a i : ℕ) where
   unfolding Finds
   finds_here b (Some k) h e = (h.0, omega (arith, h.1), h.2, h.3)
   finds_here b None h e = (b, omega arith, e, h)
+
+  -- where the walk has come to e, or behind it since it began there
+  pub finds_end : (e : ℕ) → e ≤ i → i ≤ a + (e - a) → (low : Option ℕ) → Finds low a i f → Finds low a e f
+  unfolding Finds
+  finds_end e b w (Some k) h = (h.0, omega (arith, h.0, h.1), h.2, h.3)
+  finds_end e b w None h = λ j l k. h j l (omega arith)
 
 -- and its ends
 module _ (urgent ready : ℕ → Bool) (a e : ℕ) where
@@ -146,15 +148,14 @@ module _ (table : Table) (s : Marked) (spare i : ℕ) {a : Arcs} (e : a ≡ row 
   not_ready r = ap (λ (b : Bool). b && leb 2 (priority_number (row table i).priority)) r
 
 -- what is found is ready
-module _ (net : Net) (s : Marked) (spare : ℕ) where
-  pub own_passing : (i : ℕ) → FindsOwn net s spare (Some i) → Passing (Some i) net s spare
+module _ {n : ℕ} (few : n ≤ 48) (table : Table) (s : Marked) (spare : ℕ) where
+  pub own_passing : (i : ℕ) → FindsOwn n table s spare (Some i) → Passing (Some i) table s spare
   unfolding Finds Passing ready_row
-  own_passing i f =
-      (omega (arith, f.1, net.few_contexts), and_right (movable s spare (i / 2)) (passes (row net.table i) s spare) f.2)
+  own_passing i f = (omega (arith, f.1, few), and_right (movable s spare (i / 2)) (passes (row table i) s spare) f.2)
 
-  pub extra_passing : (r : Option ℕ) → PrefersUrgent net s spare r → Passing r net s spare
+  pub extra_passing : (r : Option ℕ) → PrefersUrgent n table s spare r → Passing r table s spare
   unfolding Finds Prefers Passing ready_row
   extra_passing (Some i) (inl f) =
-      (omega (arith, f.1, net.table.few), and_left (passes (row net.table i) s spare) (leb 2 (priority_number (row net.table i).priority)) f.2)
-  extra_passing (Some i) (inr (g, f)) = (omega (arith, f.1, net.table.few), f.2)
+      (omega (arith, f.1, table.few), and_left (passes (row table i) s spare) (leb 2 (priority_number (row table i).priority)) f.2)
+  extra_passing (Some i) (inr (g, f)) = (omega (arith, f.1, table.few), f.2)
   extra_passing None f = tt

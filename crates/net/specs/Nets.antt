@@ -7,6 +7,7 @@ use Rattle.model.specs.Transitions.{Transition, transitions_of}
 use Rattle.transitions.specs.declared.Arcs.{Arcs}
 use Rattle.net.specs.Tables
 use Rattle.net.specs.Tables.{row}
+use Rattle.net.specs.declared.table.Table.{Table}
 use Rattle.net.specs.declared.net.Net.{Net}
 
 -- how many contexts it has
@@ -16,6 +17,10 @@ contexts_of net = net.contexts
 -- its relations
 abbrev pub rels_of : Net → List Relation
 rels_of net = Tables.relations_in net.relation_count net.relations
+
+-- its transitions, in arrays
+abbrev pub table_of : Net → Table
+table_of net = net.table
 
 -- the net of its contexts, with the first of these capacities, and its relations
 abbrev pub net_with : Net → (capacities : List ℕ) → model.Net

@@ -10,13 +10,11 @@ use Rattle.model.specs.Transitions.{transitions}
 use Rattle.model.specs.Firing.{Marking, below_capacity, next_of}
 use Rattle.model.specs.Claims.{Fits}
 use Rattle.net.specs.Tables.{row, blank, Stores}
-use Rattle.net.specs.Nets.{contexts_of, arcs_of}
 use Rattle.net.specs.Markings.{Shows}
 use Rattle.transitions.specs.Arcs.{priority_number}
 use Rattle.transitions.specs.declared.Arcs.{Arcs}
 use Rattle.net.specs.declared.marked.Marked.{Marked}
 use Rattle.net.specs.declared.table.Table.{Table}
-use Rattle.net.specs.declared.net.Net.{Net}
 
 -- A transition's sets against the marked places. First the tests that fail most often: no marked context inhibits it, and the contexts
 -- and Pr(¬c) that it takes are marked.
@@ -64,30 +62,30 @@ unfoldable pub Prefers : Option ℕ → ℕ → ℕ → (urgent ready : ℕ → 
 Prefers (Some i) a e urgent ready = Finds (Some i) a e urgent ⊎ (Finds None a e urgent × Finds (Some i) a e ready)
 Prefers None a e urgent ready = Finds None a e ready
 
--- the first ready one of the contexts' own transitions
-abbrev pub FindsOwn : Net → Marked → (spare : ℕ) → Option ℕ → Type 0
-FindsOwn net s spare r = Finds r 0 (2 * contexts_of net) (own_at net.table s spare)
+-- the first ready one of the own transitions of n contexts
+abbrev pub FindsOwn : (n : ℕ) → Table → Marked → (spare : ℕ) → Option ℕ → Type 0
+FindsOwn n table s spare r = Finds r 0 (2 * n) (own_at table s spare)
 
 -- of the others the first ready one of priority 2, or else the first ready one
-abbrev pub PrefersUrgent : Net → Marked → (spare : ℕ) → Option ℕ → Type 0
-PrefersUrgent net s spare r =
-    Prefers r (2 * contexts_of net) net.table.count (urgent_row net.table s spare) (ready_row net.table s spare)
+abbrev pub PrefersUrgent : (n : ℕ) → Table → Marked → (spare : ℕ) → Option ℕ → Type 0
+PrefersUrgent n table s spare r = Prefers r (2 * n) table.count (urgent_row table s spare) (ready_row table s spare)
 
--- the transition found stands in the net's arrays and is ready
-unfoldable pub Passing : Option ℕ → Net → Marked → (spare : ℕ) → Type 0
-Passing (Some i) net s spare = (i < 192) × (passes (arcs_of net i) s spare ≡ true)
-Passing None net s spare = Unit {0}
+-- the transition found stands in the arrays and is ready
+unfoldable pub Passing : Option ℕ → Table → Marked → (spare : ℕ) → Type 0
+Passing (Some i) table s spare = (i < 192) × (passes (row table i) s spare ≡ true)
+Passing None table s spare = Unit {0}
 
 -- the number found is that of the net's transition that fires next in this marking; nothing where none is enabled
 unfoldable pub Fires : Option ℕ → model.Net → Marking → Type 0
 Fires (Some i) net m = (i < length (transitions net)) × (next_of net m ≡ some (get_or (transitions net) i blank))
 Fires None net m = next_of net m ≡ none
 
--- What a walk chooses, by a marking's sets and the set `spare` alone: what it finds can fire; and of every net of as many contexts whose
--- relations fit it and whose transitions stand in the arrays, whatever its capacities, it finds the machine's next transition or none, where the
--- sets are those of the marking and `spare` is the set of the contexts below their capacity in it. Such is `net_with net capacities` (proofs/Nets).
-pub record Chooses (net : Net) (s : Marked) (spare : ℕ) (r : Option ℕ) : Type 0 where
-  pub passing : Passing r net s spare
+-- What a walk chooses, by a marking's sets and the set `spare` alone: what it finds can fire; and of every net of n contexts whose relations
+-- fit it and whose transitions stand in the arrays, whatever its capacities, it finds the machine's next transition or none, where the sets are
+-- those of the marking and `spare` is the set of the contexts below their capacity in it. Of a composed net such is `net_with net capacities`
+-- (proofs/Nets).
+pub record Chooses (n : ℕ) (table : Table) (s : Marked) (spare : ℕ) (r : Option ℕ) : Type 0 where
+  pub passing : Passing r table s spare
   pub fires :
-      (whole : model.Net) (m : Marking) → size whole ≡ contexts_of net → Fits whole → Stores net.table (transitions whole)
-      → Shows (contexts_of net) m s → spare ≡ number 64 (upto (contexts_of net) (below_capacity whole m)) → Fires r whole m
+      (whole : model.Net) (m : Marking) → size whole ≡ n → Fits whole → Stores table (transitions whole)
+      → Shows n m s → spare ≡ number 64 (upto n (below_capacity whole m)) → Fires r whole m

@@ -10,3 +10,4 @@ mod table;
 pub use marked::Marked;
 pub use net::Net;
 pub use padding::padded;
+pub use table::Table;

@@ -1,7 +1,10 @@
-//! A net's transitions by number, in nine arrays.
+//! A net's transitions by number, in nine arrays, and which of them fires next. The walk goes by the
+//! marked places and the set of the contexts below their capacity: no count and no capacity is within
+//! its reach.
 ghost use Rattle.std.specs.Prelude.{◌<◌, ◌≤◌};
 
-use relations::CheckedList;
+use crate::Marked;
+use relations::FittingList;
 use sets::Set;
 use transitions::{Arcs, Priority, Transitions};
 
@@ -21,13 +24,13 @@ pub struct Table {
     pub gives_not: [u64; 192],
     pub inhib_context: [u64; 192],
     pub inhib_pr: [u64; 192],
-    ghost few: { count ≤ 192 },
+    pub ghost few: { count ≤ 192 },
 }
 
 /// One transition of a table. A set is read when it is asked for: of most transitions the walk looks
 /// at three.
 #[derive(Clone, Copy, Debug)]
-pub struct Row<'a> {
+pub(crate) struct Row<'a> {
     table: &'a Table,
     number: usize,
     ghost inside: { number < 192 },
@@ -92,6 +95,7 @@ impl Table {
     ghost use Rattle.model.specs.Transitions.{transitions};
     ghost use Rattle.relations.specs.Lists.{net_of};
     ghost use Rattle.net.specs.Tables.{row, arcs_in, Stores, Joins};
+    ghost use Rattle.net.specs.Walks.{ready_row, FindsOwn, PrefersUrgent, Chooses};
 
     /// No transition.
     pub fn new() -> Self
@@ -111,18 +115,36 @@ impl Table {
         }
     }
 
-    /// All transitions of a checked list.
-    pub fn of(list: &CheckedList<'_>) -> Self
+    /// All transitions of a list.
+    pub fn of(list: &FittingList<'_>) -> Self
         ensures { Stores result (transitions (net_of list.now)) }
     {
         let mut table = Table::new();
-        for arcs in Transitions::of(list) {
-            table.push(arcs);
-        }
+        table.fill(list);
         table
     }
 
+    /// Becomes the table of all transitions of a list, where it is: a table is large, and moving it takes time and stack.
+    #[inline(always)]
+    pub fn fill(&mut self, list: &FittingList<'_>)
+        ensures { Stores self.new (transitions (net_of list.now)) }
+    {
+        self.clear();
+        for arcs in Transitions::of(list) {
+            self.push(arcs);
+        }
+    }
+
+    /// Becomes the table of no transition.
+    #[inline(always)]
+    pub fn clear(&mut self)
+        ensures { Stores self.new [] }
+    {
+        self.count = 0;
+    }
+
     /// A transition more, behind the others.
+    #[inline(always)]
     fn push(&mut self, arcs: Arcs)
         requires { self.old.count < 192 }
         ensures { Joins self.old arcs self.new }
@@ -142,7 +164,7 @@ impl Table {
 
     /// Transition i, to be looked at.
     #[inline(always)]
-    pub fn row(&self, i: usize) -> Row<'_>
+    pub(crate) fn row(&self, i: usize) -> Row<'_>
         requires { i < 192 }
         ensures { arcs_in result ≡ row self.now i }
     {
@@ -168,5 +190,64 @@ impl Table {
             inhib_context: Set::of_word(self.inhib_context[i]),
             inhib_pr: Set::of_word(self.inhib_pr[i]),
         }
+    }
+
+    /// Whether transition i is ready.
+    #[inline(always)]
+    #[tactic(auto, unfolding(crate::specs::Walks::ready_row))]
+    fn is_ready(&self, i: usize, marked: &Marked, spare: Set) -> bool
+        requires { i < 192 }
+        ensures { result ≡ ready_row self.now marked.now spare i }
+    {
+        marked.passes(&self.row(i), spare)
+    }
+
+    /// The first ready one of the activations and deactivations, act(c) at 2c and deac(c) behind
+    /// it. A context where neither may be ready is passed over.
+    fn first_own(&self, contexts: usize, marked: &Marked, spare: Set) -> Option<usize>
+        requires { contexts ≤ 48 }
+        ensures { FindsOwn contexts self.now marked.now spare result }
+    {
+        for c in marked.movable(spare).below(contexts).iter() {
+            let act = 2 * c;
+            if self.is_ready(act, marked, spare) {
+                return Some(act);
+            }
+            let deac = 2 * c + 1;
+            if self.is_ready(deac, marked, spare) {
+                return Some(deac);
+            }
+        }
+        None
+    }
+
+    /// Of the other transitions the first ready one of the higher priority, or else the first ready
+    /// one.
+    fn first_extra(&self, contexts: usize, marked: &Marked, spare: Set) -> Option<usize>
+        requires { contexts ≤ 48 }
+        ensures { PrefersUrgent contexts self.now marked.now spare result }
+    {
+        let mut late = None;
+        for i in 2 * contexts..self.count {
+            let row = self.row(i);
+            if !marked.passes(&row, spare) {
+                continue;
+            }
+            match row.priority() {
+                Priority::Urgent => return Some(i),
+                Priority::Late => late = late.or(Some(i)),
+            }
+        }
+        late
+    }
+
+    /// The enabled transition of the lowest number in a net of so many contexts, where these places
+    /// are marked, and `spare` holds the contexts below their capacity.
+    pub fn next(&self, contexts: usize, marked: &Marked, spare: Set) -> Option<usize>
+        requires { contexts ≤ 48 }
+        ensures { Chooses contexts self.now marked.now spare result }
+    {
+        self.first_own(contexts, marked, spare)
+            .or_else(|| self.first_extra(contexts, marked, spare))
     }
 }

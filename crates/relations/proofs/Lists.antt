@@ -60,12 +60,12 @@ module _ (n r : ℕ) (e : bad_sizes edition_1 n r ≡ false) where
   fits_most = fits_wider n 48 few_contexts
 
 -- a checked list is one that edition 1 admits
-pub valid : (list : CheckedList) → Each IsByte list.capacities.now → Valid edition_1 (net_of list)
+pub valid : (list : CheckedList) → Each IsByte list.fitting.capacities.now → Valid edition_1 (net_of list.fitting)
 valid list bytes =
     record {
-      sizes = ap (bad_sizes edition_1 (length list.capacities.now)) (length-map list.relations.now relation_from) ∙ list.sizes;
+      sizes = ap (bad_sizes edition_1 (length list.fitting.capacities.now)) (length-map list.fitting.relations.now relation_from) ∙ list.sizes;
       bytes = bytes;
       caps = list.no_zero;
-      fits = list.fits;
+      fits = list.fitting.fits;
       once = list.once;
     }

@@ -4,6 +4,7 @@ ghost use Rattle.std.specs.List.{list_any};
 ghost use Rattle.model.specs.Relations.{has_zero};
 ghost use Rattle.model.specs.Image.{edition_1, bad_sizes};
 ghost use Rattle.relations.specs.Reading.{misfits_triple};
+ghost use Rattle.relations.specs.Sizes.{exceeds};
 
 use crate::kind::Kind;
 
@@ -19,9 +20,16 @@ pub fn wrong_sizes(contexts: usize, relations: usize) -> bool
     contexts == 0 || contexts > MOST_CONTEXTS || relations > MOST_RELATIONS
 }
 
+/// Whether there are more contexts or relations than a net has room for.
+pub(crate) fn too_many(contexts: usize, relations: usize) -> bool
+    ensures { result ≡ exceeds contexts relations }
+{
+    contexts > MOST_CONTEXTS || relations > MOST_RELATIONS
+}
+
 /// Whether a capacity is 0.
 #[tactic(auto, unfolding(model::specs::Relations::has_zero))]
-pub(crate) fn has_zero(capacities: &[u8]) -> bool
+pub fn has_zero(capacities: &[u8]) -> bool
     ensures { result ≡ has_zero capacities.now }
 {
     capacities.contains(&0)
@@ -38,7 +46,7 @@ fn is_misfit(triple: [u8; 3], contexts: usize) -> bool
 }
 
 /// Whether a relation does not fit so many contexts.
-pub(crate) fn has_misfit(triples: &[[u8; 3]], contexts: usize) -> bool
+pub fn has_misfit(triples: &[[u8; 3]], contexts: usize) -> bool
     ensures { result ≡ list_any (misfits_triple contexts) triples.now }
 {
     triples.iter().any(|&triple| is_misfit(triple, contexts))

@@ -1,5 +1,5 @@
 //! What relations link: for each kind and context the contexts at the other ends.
-ghost use Rattle.std.specs.Prelude.{◌≡◌, false, ◌<◌, ◌-◌};
+ghost use Rattle.std.specs.Prelude.{◌≡◌, false, [], ◌<◌, ◌-◌};
 ghost use Rattle.model.specs.Sets.{any};
 ghost use Rattle.model.specs.Relations.{misfit, repeats};
 ghost use Rattle.relations.specs.Kinds.{kind_number};
@@ -26,25 +26,29 @@ fn row_of(kind: Kind) -> usize
 }
 
 impl Links {
-    ghost use Rattle.std.specs.Prelude.{true, IfSome, IfNone};
-
-    /// What these relations link, where none is the same as an earlier one.
+    /// What no relation links.
     #[inline(always)]
-    pub(crate) fn of(triples: &[[u8; 3]]) -> Option<Links>
-        requires { any (misfit 48) (relations_of triples.now) ≡ false }
-        ensures repeated { IfNone result (repeats (relations_of triples.now) ≡ true) }
-        ensures once { IfSome result (λ links. repeats (relations_of triples.now) ≡ false) }
-        ensures linked { IfSome result (λ links. Linked (relations_of triples.now) links.sets) }
+    pub(crate) fn none() -> Links
+        ensures { Linked [] result.sets }
     {
-        let mut links = Links { sets: [[0; 48]; 5] };
+        Links { sets: [[0; 48]; 5] }
+    }
+
+    /// Links these relations, where none is linked yet, and tells whether one of them is the same as an earlier one.
+    #[inline(always)]
+    pub(crate) fn link_all(&mut self, triples: &[[u8; 3]]) -> bool
+        requires fitting { any (misfit 48) (relations_of triples.now) ≡ false }
+        requires none { Linked [] self.old.sets }
+        ensures linked { Linked (relations_of triples.now) self.new.sets }
+        ensures repeated { result ≡ repeats (relations_of triples.now) }
+    {
+        let mut repeated = false;
         for &triple in triples {
             let link = Link::of(triple);
-            if links.linked(link) {
-                return None;
-            }
-            links.link(link);
+            repeated |= self.linked(link);
+            self.link(link);
         }
-        Some(links)
+        repeated
     }
 
     /// The contexts that relations of a kind link with this one.

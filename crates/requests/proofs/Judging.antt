@@ -4,8 +4,6 @@ use Prim.Native.Nat.{ℕ}
 use mathlib.Core.Bool.{Bool, true, false, cond, true≢false}
 use mathlib.Core.Path.{◌≡◌, refl, sym, ap, ap₂, subst, ◌∙◌}
 use mathlib.Core.List.{List}
-use native.Mathlib.Omega.{arith}
-use lib.ListN.{length}
 use Rattle.model.specs.Refusals.{first_refusal, is_granted}
 use Rattle.model.specs.Relations.{size}
 use Rattle.model.specs.Relations as model
@@ -14,23 +12,16 @@ use Rattle.model.specs.Machine.{Effect, initial_marking, step_of, concluded, eff
 use Rattle.model.specs.declared.Request.{Request}
 use Rattle.model.specs.declared.Verdict.{Verdict}
 use Rattle.model.specs.declared.Verdict.TheVariants.{Granted, Refused}
-use Rattle.net.specs.Nets.{net_with}
 use Rattle.net.specs.Markings.{counts_in}
 use Rattle.net.specs.declared.net.Net.{Net}
-use Rattle.net.proofs.Nets.{size_with}
 use Rattle.step.specs.Places.{marking_of, cleared, Limits, SameLimits}
-use Rattle.step.specs.Steps.{step_from, Outcomes}
+use Rattle.step.specs.Steps.{Describes, Outcomes}
 use Rattle.step.specs.declared.places.Places.{Places}
 use Rattle.step.specs.declared.places.Stepped.{Stepped}
 use Rattle.requests.specs.Judges.{tests_before, tests_after, told, Judges}
 
-module _ (net : Net) (caps counts : List ℕ) (r : Request) (long : length caps ≡ 48) where
-  abbrev whole : model.Net
-  whole = net_with net caps
-
-  size_is : size whole ≡ net.contexts
-  size_is = size_with net caps (omega (arith, net.few_contexts))
-
+-- in any net that the arrays hold
+module _ (net : Net) (caps counts : List ℕ) (r : Request) (whole : model.Net) (d : Describes whole net caps) where
   -- what a request comes to, by the verdict before its step
   abbrev effect_by : Verdict → Effect
   effect_by v =
@@ -43,7 +34,7 @@ module _ (net : Net) (caps counts : List ℕ) (r : Request) (long : length caps 
 
   effect_at : {v : Verdict} → v ≡ first_refusal (tests_before net.contexts (counts_in counts) r) → effect whole (counts_in counts) r ≡ effect_by v
   unfolding effect
-  effect_at q = ap effect_by (ap (λ (k : ℕ). first_refusal (tests_before k (counts_in counts) r)) size_is ∙ sym q)
+  effect_at q = ap effect_by (ap (λ (k : ℕ). first_refusal (tests_before k (counts_in counts) r)) d.contexts ∙ sym q)
 
   -- a request that is refused before its step
   pub judges_before : (v : Verdict) → v ≡ first_refusal (tests_before net.contexts (counts_in counts) r) → is_granted v ≡ false
@@ -54,7 +45,8 @@ module _ (net : Net) (caps counts : List ℕ) (r : Request) (long : length caps 
 
   -- a request that makes a step, which ends so
   module _ {first_verdict : Verdict} (passes : first_verdict ≡ first_refusal (tests_before net.contexts (counts_in counts) r)) (granted : is_granted first_verdict ≡ true) (p₀ p : Places) (first : Limits net.contexts caps p₀) (then : SameLimits p₀ p)
-      (start : marking_of p₀ ≡ initial_marking (counts_in counts) r) {e : Stepped} (end : Outcomes e (marking_of p) (step_from net p₀))
+      (start : marking_of p₀ ≡ initial_marking (counts_in counts) r) {e : Stepped}
+      (end : (w : model.Net) → Describes w net p₀.capacities → Outcomes e (marking_of p) (fire_until_quiet w step_limit (marking_of p₀)))
       {clear_now : Bool} (clear_is : clear_now ≡ cleared p.contexts (marking_of p)) (after : List ℕ) (after_is : counts_in after ≡ (marking_of p).count) where
     abbrev m : Marking
     m = marking_of p
@@ -72,14 +64,14 @@ module _ (net : Net) (caps counts : List ℕ) (r : Request) (long : length caps 
     ended : Outcomes e m o
     ended =
         subst (λ (x : Marking). Outcomes e m (fire_until_quiet whole step_limit x)) start
-        (subst (λ (cs : List ℕ). Outcomes e m (fire_until_quiet (net_with net cs) step_limit (marking_of p₀))) first.capacities end)
+        (end whole (subst (Describes whole net) (sym first.capacities) d))
 
     abbrev due : Verdict
     due = first_refusal (tests_after o.quiet (clear whole o.marking) r (counts_in counts r.context) (o.marking.count r.context))
 
     clear_due : clear_now ≡ clear whole o.marking
     unfolding clear
-    clear_due = clear_is ∙ ap (λ (k : ℕ). cleared k m) (then.contexts ∙ first.contexts ∙ sym size_is) ∙ ap (cleared (size whole)) ended.marking
+    clear_due = clear_is ∙ ap (λ (k : ℕ). cleared k m) (then.contexts ∙ first.contexts ∙ sym d.contexts) ∙ ap (cleared (size whole)) ended.marking
 
     after_due : counts_in after ≡ o.marking.count
     after_due = after_is ∙ ap (λ (x : Marking). x.count) ended.marking

@@ -2,10 +2,12 @@
 #![tactic(auto)]
 
 ghost use Rattle.std.specs.Prelude.{◌≡◌};
+ghost use Rattle.model.specs.Relations as model;
 ghost use Rattle.model.specs.Refusals.{verdict_of, first_refusal};
 ghost use Rattle.model.specs.Machine.{effect};
 ghost use Rattle.net.specs.Nets.{contexts_of, net_with};
 ghost use Rattle.net.specs.Markings.{counts_in};
+ghost use Rattle.step.specs.Steps.{Describes};
 ghost use Rattle.requests.specs.Judges.{tests_before, tests_after, told, Judges};
 
 use model::{Answer, Refusal, Request, Verdict};
@@ -61,7 +63,10 @@ fn answer(verdict: Verdict, stepped: Stepped) -> Answer
 
 /// Answers a request at these counts. A granted one leaves them as its step ends; a refused one leaves them as they were.
 pub fn judge(net: &Net, capacities: &[u8; 48], counts: &mut [u8; 48], request: Request) -> Answer
-    ensures { Judges result counts.new (effect (net_with net.now capacities.now) (counts_in counts.old) request) }
+    ensures own { Judges result counts.new
+        (effect (net_with net.now capacities.now) (counts_in counts.old) request) }
+    ensures every { (whole : model.Net) → Describes whole net.now capacities.now
+        → Judges result counts.new (effect whole (counts_in counts.old) request) }
 {
     let c = request.context;
     let before = Verdict::from(check_before(net, counts, request));

@@ -9,3 +9,5 @@ pub mod Texts
 pub mod Laws
 pub mod Reading
 pub mod Breaking
+pub mod Behind
+pub mod Idle

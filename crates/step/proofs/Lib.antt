@@ -4,3 +4,4 @@ pub mod Moving
 pub mod Firings
 pub mod Requests
 pub mod Running
+pub mod Assigned

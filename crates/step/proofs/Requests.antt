@@ -54,7 +54,21 @@ unfolding initial_marking
 begun m true c = λ i. record { count = m; pr = λ j. one_at c j i; pr_not = zeros }
 begun m false c = λ i. record { count = m; pr = zeros; pr_not = λ j. one_at c j i }
 
--- no temporary place holds more than one
+-- no temporary place holds more than one: where none holds any, where one more is put on one, and so where a request begins
+pub rests_low : (m : Counts) → AtMost 1 (at_rest m)
+rests_low m = record { pr = λ c. omega arith; pr_not = λ c. omega arith }
+
+pub put_low : (on : Bool) (c : ℕ) (m : Marking) → AtMost 1 m → AtMost 1 (put_at (cond on Pr PrNot) c 1 m)
+put_low on c m l = go on
+  where
+    one : (b : Bool) (x : ℕ) → x ≤ 1 → cond b 1 x ≤ 1
+    one true x h = omega arith
+    one false x h = h
+
+    go : (b : Bool) → AtMost 1 (put_at (cond b Pr PrNot) c 1 m)
+    go true = record { pr = λ j. one (eqb j c) (m.pr j) (l.pr j); pr_not = l.pr_not }
+    go false = record { pr = l.pr; pr_not = λ j. one (eqb j c) (m.pr_not j) (l.pr_not j) }
+
 pub one_most : (m : Counts) (r : Request) → AtMost 1 (initial_marking m r)
 unfolding initial_marking
 one_most m r = record { pr = λ c. omega (arith, bit_lt (r.on && singleton r.context c)); pr_not = λ c. omega (arith, bit_lt (not r.on && singleton r.context c)) }

@@ -5,4 +5,5 @@
 mod beginning;
 mod places;
 
-pub use places::{Places, Stepped};
+pub use beginning::below_capacity;
+pub use places::{PlaceKind, Places, Stepped};

@@ -14,7 +14,7 @@ use transitions::Arcs;
 
 /// The three kinds of places: those of the contexts, the Pr(c), and the Pr(¬c).
 #[derive(Clone, Copy, Debug, PartialEq, Eq)]
-enum PlaceKind {
+pub enum PlaceKind {
     Context,
     Pr,
     PrNot,
@@ -32,7 +32,7 @@ pub struct Stepped {
 }
 
 /// The tokens on the places of a net: the counts of its contexts, with their capacities, and the tokens on its temporary places.
-#[derive(Debug, Drop)]
+#[derive(Clone, Copy, Debug)]
 pub struct Places {
     contexts: usize,
     capacities: [u8; 48],
@@ -63,14 +63,15 @@ impl From<Request> for PlaceKind {
 
 impl Places {
     ghost use Rattle.std.specs.Prelude.{◌<◌};
-    ghost use Rattle.model.specs.Firing.{fire};
+    ghost use Rattle.model.specs.Relations as model;
+    ghost use Rattle.model.specs.Firing.{fire, fire_until_quiet, step_limit};
     ghost use Rattle.model.specs.Machine.{initial_marking};
     ghost use Rattle.model.specs.Claims.{at_rest};
     ghost use Rattle.net.specs.Nets.{contexts_of};
     ghost use Rattle.net.specs.Markings.{counts_in, AtMost};
     ghost use Rattle.step.specs.Places.{marking_of, width, tokens_at, put_at, moved_on};
     ghost use Rattle.step.specs.Places.{reading, cleared, Limits, SameLimits, CanMove, Firable};
-    ghost use Rattle.step.specs.Steps.{step_from, Outcomes};
+    ghost use Rattle.step.specs.Steps.{step_from, Describes, Outcomes};
 
     /// The places of a net with these counts and no token on a temporary place.
     #[inline(always)]
@@ -95,14 +96,18 @@ impl Places {
         }
     }
 
-    /// Begins the step of a request: one token on the request's own temporary place, where no other is.
+    /// Puts one token on the request's own temporary place, which begins its step where no other token is. A
+    /// step of several wishes is begun by one call for each.
     // Apart from `at_rest`, since a function of both would hand back places that it changed, and move
     // them: a request on a small net took a fifth more instructions.
     #[inline(always)]
     pub fn begin(&mut self, request: Request)
         requires inside { request.context < self.old.contexts }
-        requires rest { marking_of self.old ≡ at_rest (marking_of self.old).count }
-        ensures marking { marking_of self.new ≡ initial_marking (marking_of self.old).count request }
+        requires low { AtMost 1 (marking_of self.old) }
+        ensures put { marking_of self.new
+            ≡ put_at (cond request.on Pr PrNot) request.context 1 (marking_of self.old) }
+        ensures marking { marking_of self.old ≡ at_rest (marking_of self.old).count
+            → marking_of self.new ≡ initial_marking (marking_of self.old).count request }
         ensures low { AtMost 1 (marking_of self.new) }
         ensures limits { SameLimits self.old self.new }
     {
@@ -122,8 +127,8 @@ impl Places {
         }
     }
 
-    // Puts so many tokens on the place of context c of a kind, in the place of those that are there.
-    fn put(&mut self, kind: PlaceKind, c: usize, tokens: u16)
+    /// Puts so many tokens on the place of context c of a kind, in the place of those that are there.
+    pub fn put(&mut self, kind: PlaceKind, c: usize, tokens: u16)
         requires inside { c < self.old.contexts }
         requires narrow { tokens ≤ width kind }
         ensures marking { marking_of self.new ≡ put_at kind c tokens (marking_of self.old) }
@@ -164,8 +169,8 @@ impl Places {
         }
     }
 
-    // Fires a transition that these places find ready, where no temporary place holds more than 4,096 tokens.
-    fn fire(&mut self, arcs: &Arcs)
+    /// Fires a transition that these places find ready, where no temporary place holds more than 4,096 tokens.
+    pub fn fire(&mut self, arcs: &Arcs)
         requires { Firable self.old arcs.now }
         ensures marking { marking_of self.new ≡ fire (reading self.old.contexts arcs.now) (marking_of self.old) }
         ensures limits { SameLimits self.old self.new }
@@ -180,6 +185,9 @@ impl Places {
         requires contexts { self.old.contexts ≡ contexts_of net.now }
         requires low { AtMost 1 (marking_of self.old) }
         ensures outcome { Outcomes result (marking_of self.new) (step_from net.now self.old) }
+        ensures every { (whole : model.Net) → Describes whole net.now self.old.capacities
+            → Outcomes result (marking_of self.new)
+            (fire_until_quiet whole step_limit (marking_of self.old)) }
         ensures limits { SameLimits self.old self.new }
     {
         let mut firings = 0;
@@ -216,5 +224,27 @@ impl Places {
         ensures { counts_in result.now ≡ (marking_of self.now).count }
     {
         &self.counts
+    }
+
+    /// The places that hold a token.
+    pub fn marked(&self) -> Marked
+        ensures marked { result ≡ self.now.marked }
+        ensures shows { Shows self.now.contexts (marking_of self.now) result }
+    {
+        self.marked // renewed wherever a token moves
+    }
+
+    /// The contexts below their capacity.
+    pub fn spare(&self) -> Set
+        ensures { result ≡ spare_word self.now.contexts self.now.capacities self.now.counts }
+    {
+        self.spare // renewed wherever a count moves
+    }
+
+    /// The tokens on the temporary places: Pr(c) stands at c, Pr(¬c) at 48 + c.
+    pub fn temporary(&self) -> &[u16; 96]
+        ensures { marking self.now.counts result.now ≡ marking_of self.now }
+    {
+        &self.temporary
     }
 }

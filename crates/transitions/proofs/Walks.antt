@@ -16,10 +16,10 @@ use Rattle.model.specs.declared.Relation.{Relation}
 use Rattle.model.specs.Transitions.{Transition, act, deac, extra, context_transitions, extra_transitions, transitions_of, transitions}
 use Rattle.model.proofs.Sizes.{length_concat_map, length_range, length_transitions}
 use Rattle.model.specs.Image.{relation_from}
-use Rattle.relations.specs.declared.list.CheckedList.{CheckedList}
+use Rattle.relations.specs.declared.list.FittingList.{FittingList}
 use Rattle.relations.specs.Reading.{relations_of}
 use Rattle.relations.specs.Lists.{net_of}
-use Rattle.relations.proofs.Lists.{few_contexts, few_relations, fits_most}
+use Rattle.relations.proofs.Reading.{fits_wider}
 use Rattle.model.proofs.Ready.{fitting}
 use Rattle.model.proofs.Tests.{or_false_left, or_false_right}
 use Rattle.transitions.specs.declared.Arcs.{Arcs}
@@ -123,16 +123,14 @@ pub own_first : (walk : Transitions) (a : Arcs) {most : ℕ} → most ≡ size (
 own_first walk a m h e = left_own (net_of walk.list.now) walk.next (relations_of walk.relations.now) a (omega (arith, m, h)) e
 
 -- the context whose own transition has this number
-pub own_context : (list : CheckedList) (i : ℕ) → i < 2 * size (net_of list) → i / 2 < 48
-own_context list i h = omega (arith, few_contexts (size (net_of list)) (length list.relations.now) list.sizes)
+pub own_context : (list : FittingList) (i : ℕ) → i < 2 * size (net_of list) → i / 2 < 48
+own_context list i h = omega (arith, list.few_contexts)
 
 -- how many there are at most
-pub few_transitions : (list : CheckedList) → length (transitions (net_of list)) ≤ 192
+pub few_transitions : (list : FittingList) → length (transitions (net_of list)) ≤ 192
 few_transitions list =
-    let n = length list.capacities.now in
-    let r = length list.relations.now in
     let count = length-map list.relations.now relation_from in
-    omega (arith, length_transitions (net_of list), few_contexts n r list.sizes, few_relations n r list.sizes, count)
+    omega (arith, length_transitions (net_of list), list.few_contexts, list.few_relations, count)
 
 -- ---- how many relations have an extra transition
 -- a kind above exclusions has one
@@ -167,12 +165,12 @@ extras_counted rels (t ∷ triples) e =
     ∙ step (has_extra t) t (filter has_extra triples)
 
 -- two transitions for each context, and the extra ones
-pub transitions_counted : (list : CheckedList) (triples : List (List ℕ)) → relations_of triples ≡ (net_of list).rels
+pub transitions_counted : (list : FittingList) (triples : List (List ℕ)) → relations_of triples ≡ (net_of list).rels
     → length (transitions (net_of list)) ≡ 2 * length list.capacities.now + count_by has_extra triples
 unfolding transitions_of context_transitions extra_transitions
 transitions_counted list triples e =
     let net = net_of list in
-    let all = fits_most (length list.capacities.now) (length list.relations.now) list.sizes net.rels list.fits in
+    let all = fits_wider (size net) 48 list.few_contexts net.rels list.fits in
     let own = length_concat_map (context_transitions net.rels) 2 (λ _. refl) (range 0 (size net)) in
     let extras : length (concat_map (extra net.rels) net.rels) ≡ length (filter has_extra triples) =
     ap (λ (rs : List Relation). length (concat_map (extra net.rels) rs)) (sym e) ∙ extras_counted net.rels triples (rw e all) in

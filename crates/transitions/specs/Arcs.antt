@@ -5,7 +5,7 @@ use Rattle.model.specs.Sets.{Each, number}
 use Rattle.model.specs.Relations.{Net}
 use Rattle.model.specs.Transitions.{Transition, extra, is_forced, transitions}
 use Rattle.model.specs.declared.Relation.{Relation}
-use Rattle.relations.specs.declared.list.CheckedList.{CheckedList}
+use Rattle.relations.specs.declared.list.FittingList.{FittingList}
 use Rattle.relations.specs.Lists.{net_of}
 use Rattle.transitions.specs.declared.Arcs.{Arcs}
 use Rattle.transitions.specs.declared.priority.Priority.{Priority}
@@ -57,5 +57,5 @@ abbrev pub Tells : Net → Type 0
 Tells net = Each (λ (t : Transition). (a : Arcs) → Holds a t → unasked a ≡ is_forced t) (transitions net)
 
 -- the extra transition of a relation, in the net of a list
-abbrev pub extra_of : CheckedList → Relation → List Transition
+abbrev pub extra_of : FittingList → Relation → List Transition
 extra_of list r = extra (net_of list).rels r

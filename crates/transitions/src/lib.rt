@@ -12,6 +12,7 @@ mod walk;
 
 pub use counts::count;
 pub use priority::Priority;
+pub use roles::{act, deac, extra};
 use sets::Set;
 pub use walk::Transitions;
 

@@ -1,4 +1,4 @@
-//! The five forms of a transition, from what the relations of a checked list link.
+//! The five forms of a transition, from what the relations of a list link.
 ghost use Rattle.std.specs.Prelude.{◌≡◌, ◌<◌, map};
 ghost use Rattle.std.specs.Option.{option_to_list};
 ghost use Rattle.model.specs.Sets.{number, singleton, empty_set};
@@ -8,12 +8,12 @@ ghost use Rattle.relations.specs.Lists.{net_of};
 ghost use Rattle.transitions.specs.Arcs.{arcs_of, extra_of};
 
 use crate::{Arcs, Priority};
-use relations::{CheckedList, Kind, Link};
+use relations::{FittingList, Kind, Link};
 use sets::Set;
 
 // What a context asks off when it goes: all that it causes or implies.
 #[inline(always)]
-fn asked_off(list: &CheckedList<'_>, context: usize) -> Set
+fn asked_off(list: &FittingList<'_>, context: usize) -> Set
     requires { context < 48 }
     ensures { result ≡ number 64 (asks_off (net_of list.now).rels context) }
 {
@@ -23,7 +23,7 @@ fn asked_off(list: &CheckedList<'_>, context: usize) -> Set
 
 // What a context asks on when it comes: all that it asks off when it goes, and what it suggests.
 #[inline(always)]
-fn asked_on(list: &CheckedList<'_>, context: usize) -> Set
+fn asked_on(list: &FittingList<'_>, context: usize) -> Set
     requires { context < 48 }
     ensures { result ≡ number 64 (asks_on (net_of list.now).rels context) }
 {
@@ -33,7 +33,7 @@ fn asked_on(list: &CheckedList<'_>, context: usize) -> Set
 /// The activation of a context. It needs what the context requires, and what is excluded with it
 /// stops it.
 #[inline(always)]
-pub(crate) fn act(list: &CheckedList<'_>, context: usize) -> Arcs
+pub fn act(list: &FittingList<'_>, context: usize) -> Arcs
     requires { context < 48 }
     ensures { result ≡ arcs_of (act (net_of list.now).rels context) }
 {
@@ -54,7 +54,7 @@ pub(crate) fn act(list: &CheckedList<'_>, context: usize) -> Arcs
 /// The deactivation of a context.
 #[tactic(auto, using(sets::proofs::Laws::zero_holds), unfolding(model::specs::Transitions::deac))]
 #[inline(always)]
-pub(crate) fn deac(list: &CheckedList<'_>, context: usize) -> Arcs
+pub fn deac(list: &FittingList<'_>, context: usize) -> Arcs
     requires { context < 48 }
     ensures { result ≡ arcs_of (deac (net_of list.now).rels context) }
 {
@@ -70,7 +70,7 @@ pub(crate) fn deac(list: &CheckedList<'_>, context: usize) -> Arcs
 
 // The forced transition of "a requires b". That of "a implies b" is also stopped by Pr(b).
 #[inline(always)]
-fn forced(list: &CheckedList<'_>, link: Link) -> Arcs
+fn forced(list: &FittingList<'_>, link: Link) -> Arcs
     ensures { result ≡ arcs_of (forced (net_of list.now).rels link.a (singleton link.b) empty_set) }
 {
     let Link { a, b, .. } = link;
@@ -116,7 +116,7 @@ fn decline_of(link: Link) -> Arcs
 /// The extra transition of a relation, where it has one: an exclusion has none.
 #[tactic(auto, unfolding(model::specs::Transitions::extra, model::specs::Transitions::forced))]
 #[inline(always)]
-pub(crate) fn extra(list: &CheckedList<'_>, link: Link) -> Option<Arcs>
+pub fn extra(list: &FittingList<'_>, link: Link) -> Option<Arcs>
     ensures { option_to_list result ≡ map arcs_of (extra_of list.now (relation_of link)) }
 {
     match link.kind {

@@ -12,8 +12,8 @@ returns-in_err-calls-clause-ran c =
 
 pub returns-clause-ran : goal.returns-clause-ran
 returns-clause-ran c =
-    ran_some c.args.image.now c.args.calls.now c.args.out.now (state c.load-loaded.result.engine []) c.in_ok-calls.calls.now _ _ c.in_ok-calls.ensures.some
-    c.load-loaded.ensures.engine c.in_ok-calls.ensures.calls c.run_on.ensures
+    ran_some c.args.image.now c.args.calls.now c.args.out.now (state c.load_into.new.engine []) c.in_ok-calls.calls.now _ _ c.in_ok-calls.ensures.some
+    c.load_into.ensures.engine c.in_ok-calls.ensures.calls c.run_on.ensures
 
 pub returns-clause-some : goal.returns-clause-some
 returns-clause-some c = some_written _ _ _ _ _ c.run_on.ensures

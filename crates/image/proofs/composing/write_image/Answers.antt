@@ -7,7 +7,7 @@ use Rattle.image.proofs.composing.write_image.Goals as goal
 pub returns : goal.returns
 returns c =
     image_parts (net_of c.args.list.now)
-    (c.copy_from_slice.ensures.after ∙ c.capacities.ensures)
-    (c.copy_from_slice-2.ensures.after ∙ c.requires.relations)
+    (c.copy.ensures ∙ c.capacities.ensures)
+    (c.copy-2.ensures ∙ c.requires.relations)
     c.write_records.ensures
-    (c.copy_from_slice-3.ensures.after ∙ c.to_bytes.ensures ∙ ap (trailer_bytes edition_1) c.requires.trailer)
+    (c.copy_from_slice.ensures.after ∙ c.to_bytes.ensures ∙ ap (trailer_bytes edition_1) c.requires.trailer)
