@@ -4,7 +4,7 @@
 
 use engine::Engine;
 use listing::List;
-use model::{Answer, Call};
+use model::{Answer, Call, Verdict};
 use std::io;
 use std::io::{Read, Write};
 
@@ -99,9 +99,12 @@ fn run_image(
     asked: Asked,
 ) -> Result<(), End> {
     damage(input, image, asked.damages).ok_or(End::Stream)?;
-    let loaded = image::load(image);
-    let mut engine = loaded.engine;
-    listing::print_load(out, loaded.verdict, &engine, loaded.part)?;
+    let mut engine = Engine::empty();
+    let (verdict, part) = match image::load_into(image, &mut engine) {
+        Ok(part) => (Verdict::Granted, part),
+        Err(refusal) => (Verdict::Refused(refusal), &[][..]),
+    };
+    listing::print_load(out, verdict, &engine, part)?;
     make_calls(input, out, &mut engine, asked)
 }
 
