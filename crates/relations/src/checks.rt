@@ -49,7 +49,7 @@ fn is_misfit(triple: [u8; 3], contexts: usize) -> bool
 pub fn has_misfit(triples: &[[u8; 3]], contexts: usize) -> bool
     ensures { result ≡ list_any (misfits_triple contexts) triples.now }
 {
-    // by number, where `any` would do: an edit can then misplace the bytes of a relation
+    // by number: through `any` the proof search tells no byte of a wrong place from one of the right place
     for i in 0..triples.len() {
         if is_misfit(triples[i], contexts) {
             return true;
