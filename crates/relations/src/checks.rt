@@ -49,7 +49,7 @@ fn is_misfit(triple: [u8; 3], contexts: usize) -> bool
 pub fn has_misfit(triples: &[[u8; 3]], contexts: usize) -> bool
     ensures { result ≡ list_any (misfits_triple contexts) triples.now }
 {
-    // by number: through `any` the proof search tells no byte of a wrong place from one of the right place
+    // by number, and not by `any`: here an edit that misreads a byte is refused for that byte, and not for its form
     for i in 0..triples.len() {
         if is_misfit(triples[i], contexts) {
             return true;
