@@ -46,7 +46,7 @@ module _ (net : Net) (caps counts : List ℕ) (r : Request) (whole : model.Net) 
   -- a request that makes a step, which ends so
   module _ {first_verdict : Verdict} (passes : first_verdict ≡ first_refusal (tests_before net.contexts (counts_in counts) r)) (granted : is_granted first_verdict ≡ true) (p₀ p : Places) (first : Limits net.contexts caps p₀) (then : SameLimits p₀ p)
       (start : marking_of p₀ ≡ initial_marking (counts_in counts) r) {e : Stepped}
-      (end : (w : model.Net) → Describes w net p₀.capacities → Outcomes e (marking_of p) (fire_until_quiet w step_limit (marking_of p₀)))
+      (end : Outcomes e (marking_of p) (fire_until_quiet whole step_limit (marking_of p₀)))
       {clear_now : Bool} (clear_is : clear_now ≡ cleared p.contexts (marking_of p)) (after : List ℕ) (after_is : counts_in after ≡ (marking_of p).count) where
     abbrev m : Marking
     m = marking_of p
@@ -62,9 +62,7 @@ module _ (net : Net) (caps counts : List ℕ) (r : Request) (whole : model.Net) 
     o = step_of whole (counts_in counts) r
 
     ended : Outcomes e m o
-    ended =
-        subst (λ (x : Marking). Outcomes e m (fire_until_quiet whole step_limit x)) start
-        (end whole (subst (Describes whole net) (sym first.capacities) d))
+    ended = subst (λ (x : Marking). Outcomes e m (fire_until_quiet whole step_limit x)) start end
 
     abbrev due : Verdict
     due = first_refusal (tests_after o.quiet (clear whole o.marking) r (counts_in counts r.context) (o.marking.count r.context))

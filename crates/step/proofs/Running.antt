@@ -97,19 +97,20 @@ spare_of net capacities counts whole d m e =
         ap (λ (b : Bool). b && ltb (get_or counts j 0) (get_or capacities j 0)) (le-ltb j net.contexts (omega arith))
         ∙ sym (ap (λ (b : Bool). b && ltb (m.count j) (capacity whole j)) (le-ltb j net.contexts (omega arith)))
 
--- The step so far, from the places p₀: in every net that the arrays hold.
-pub record Going (net : Net) (p₀ p : Places) (firings forced : ℕ) : Type 0 where
+-- The step so far, from the places p₀: in every net that the arrays hold and that is one of some, be these all nets or one.
+pub record Going (Among : model.Net → Type 0) (net : Net) (p₀ p : Places) (firings forced : ℕ) : Type 0 where
   pub few : firings ≤ 4096
   pub fewer : forced ≤ firings
   pub contexts : p₀.contexts ≡ net.contexts
   pub limits : SameLimits p₀ p
   pub low : AtMost (firings + 1) (marking_of p)
-  pub so_far : (whole : model.Net) → Describes whole net p₀.capacities → Loops.Fired whole (marking_of p₀) firings forced (marking_of p)
+  pub so_far :
+      (whole : model.Net) → Describes whole net p₀.capacities → Among whole → Loops.Fired whole (marking_of p₀) firings forced (marking_of p)
 
-pub going_start : (net : Net) (p₀ : Places) → p₀.contexts ≡ net.contexts → AtMost 1 (marking_of p₀) → Going net p₀ p₀ 0 0
-going_start net p₀ e l = record { few = omega arith; fewer = omega arith; contexts = e; limits = record { contexts = refl; capacities = refl }; low = l; so_far = λ whole d. start }
+pub going_start : {Among : model.Net → Type 0} (net : Net) (p₀ : Places) → p₀.contexts ≡ net.contexts → AtMost 1 (marking_of p₀) → Going Among net p₀ p₀ 0 0
+going_start net p₀ e l = record { few = omega arith; fewer = omega arith; contexts = e; limits = record { contexts = refl; capacities = refl }; low = l; so_far = λ whole d h. start }
 
-module _ (net : Net) (p₀ p : Places) {firings forced : ℕ} (g : Going net p₀ p firings forced) where
+module _ {Among : model.Net → Type 0} (net : Net) (p₀ p : Places) {firings forced : ℕ} (g : Going Among net p₀ p firings forced) where
   same : p.contexts ≡ net.contexts
   same = g.limits.contexts ∙ g.contexts
 
@@ -136,7 +137,7 @@ module _ (net : Net) (p₀ p : Places) {firings forced : ℕ} (g : Going net p�
   -- one more firing
   pub going_on : {i : ℕ} → Chooses net.contexts net.table p.marked p.spare (Some i) → (firings ≡ 4096 → ⊥) → {a : Arcs} → a ≡ arcs_of net i → (p' : Places)
       → marking_of p' ≡ fire (reading p.contexts a) (marking_of p) → SameLimits p p' → {last : Bool} → last ≡ unasked a
-      → Going net p₀ p' (firings + 1) (forced + bit last)
+      → Going Among net p₀ p' (firings + 1) (forced + bit last)
   unfolding Fires
   going_on {i} ch h {a} e p' f same_limits {last} forced_is =
       record {
@@ -145,12 +146,12 @@ module _ (net : Net) (p₀ p : Places) {firings forced : ℕ} (g : Going net p�
         contexts = g.contexts;
         limits = record { contexts = same_limits.contexts ∙ g.limits.contexts; capacities = same_limits.capacities ∙ g.limits.capacities };
         low = subst (AtMost (firings + 1 + 1)) (sym f) (fire_low (firings + 1) (reading p.contexts a) (marking_of p) g.low);
-        so_far = λ whole d. further whole d (fires_in (Some i) ch whole d);
+        so_far = λ whole d w. further whole d w (fires_in (Some i) ch whole d);
       }
     where
-      further : (whole : model.Net) → Describes whole net p₀.capacities → Fires (Some i) whole (marking_of p)
+      further : (whole : model.Net) → Describes whole net p₀.capacities → Among whole → Fires (Some i) whole (marking_of p)
           → Loops.Fired whole (marking_of p₀) (firings + 1) (forced + bit last) (marking_of p')
-      further whole d fi =
+      further whole d w fi =
           let u = get_or (transitions whole) i blank in
           let has : Holds a u = subst (λ (x : Arcs). Holds x u) (sym e) (d.table.at i (omega (arith, fi.0, d.table.count))) in
           let low : Bounded p.contexts u = subst (λ (k : ℕ). Bounded k u) (d.contexts ∙ sym same) (each_get_or (bounded whole d.fits) i blank fi.0) in
@@ -159,23 +160,23 @@ module _ (net : Net) (p₀ p : Places) {firings forced : ℕ} (g : Going net p�
           sym (ap (λ (b : Bool). forced + bit b) (forced_is ∙ each_get_or (forced_told whole d.fits (omega (arith, d.contexts, net.few_contexts))) i blank fi.0 a has)) in
           subst (Loops.Fired whole (marking_of p₀) (firings + 1) (forced + bit last)) after
           (subst (λ (k : ℕ). Loops.Fired whole (marking_of p₀) k (forced + bit last) (fire u (marking_of p))) (sym (add-one firings))
-          (subst (λ (j : ℕ). Loops.Fired whole (marking_of p₀) (suc firings) j (fire u (marking_of p))) told (more (g.so_far whole d) u fi.1)))
+          (subst (λ (j : ℕ). Loops.Fired whole (marking_of p₀) (suc firings) j (fire u (marking_of p))) told (more (g.so_far whole d w) u fi.1)))
 
   ends : (quiet : Bool) (whole : model.Net) → Loops.Ends whole (marking_of p₀) 4096 quiet firings forced (marking_of p)
       → Outcomes (record { firings = firings; forced = forced; quiet = quiet }) (marking_of p) (fire_until_quiet whole step_limit (marking_of p₀))
   ends quiet whole e = record { quiet = sym e.quiet_is; firings = sym e.firings_are; forced = sym e.forced_are; marking = sym e.marking_is }
 
   -- the ends
-  pub ends_quiet : Chooses net.contexts net.table p.marked p.spare None → (whole : model.Net) → Describes whole net p₀.capacities
+  pub ends_quiet : Chooses net.contexts net.table p.marked p.spare None → (whole : model.Net) → Describes whole net p₀.capacities → Among whole
       → Outcomes (record { firings = firings; forced = forced; quiet = true }) (marking_of p) (fire_until_quiet whole step_limit (marking_of p₀))
   unfolding Fires
-  ends_quiet ch whole d = ends true whole (loop_quiet whole (marking_of p₀) (g.so_far whole d) 4096 g.few (fires_in None ch whole d))
+  ends_quiet ch whole d w = ends true whole (loop_quiet whole (marking_of p₀) (g.so_far whole d w) 4096 g.few (fires_in None ch whole d))
 
-  pub ends_stopped : {i : ℕ} → Chooses net.contexts net.table p.marked p.spare (Some i) → firings ≡ 4096 → (whole : model.Net) → Describes whole net p₀.capacities
+  pub ends_stopped : {i : ℕ} → Chooses net.contexts net.table p.marked p.spare (Some i) → firings ≡ 4096 → (whole : model.Net) → Describes whole net p₀.capacities → Among whole
       → Outcomes (record { firings = firings; forced = forced; quiet = false }) (marking_of p) (fire_until_quiet whole step_limit (marking_of p₀))
   unfolding Fires
-  ends_stopped {i} ch e whole d =
+  ends_stopped {i} ch e whole d w =
       let fi = fires_in (Some i) ch whole d in
       ends false whole
       (subst (λ (k : ℕ). Loops.Ends whole (marking_of p₀) k false firings forced (marking_of p)) e
-      (loop_stopped whole (marking_of p₀) (g.so_far whole d) (get_or (transitions whole) i blank) fi.1))
+      (loop_stopped whole (marking_of p₀) (g.so_far whole d w) (get_or (transitions whole) i blank) fi.1))

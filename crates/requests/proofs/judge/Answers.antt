@@ -8,6 +8,7 @@ use Rattle.model.specs.Firing.{Marking}
 use Rattle.model.specs.Machine.{initial_marking}
 use Rattle.model.specs.Claims.{at_rest}
 use Rattle.net.specs.Markings.{counts_in, AtMost}
+use Rattle.step.specs.Steps.{Describes}
 use Rattle.step.proofs.Requests.{rests_low}
 use Rattle.step.proofs.Running.{described}
 use Rattle.requests.proofs.Judging.{judges_before, judges_after}
@@ -48,7 +49,8 @@ returns-clause-every c =
     (judges_after a.net.now a.capacities.now a.counts.now a.request whole d
     (c.from-before.ensures ∙ c.check_before.ensures) (sym c.is_granted.ensures ∙ c.if-not-is_granted.false) c.begin.new.self c.run-stepped.new.self
     (record { contexts = begins.limits.contexts ∙ rest.limits.contexts; capacities = begins.limits.capacities ∙ rest.limits.capacities })
-    c.run-stepped.ensures.limits (begun ∙ ap (λ (m : Marking). initial_marking m.count a.request) rest.marking) c.run-stepped.ensures.every
+    c.run-stepped.ensures.limits (begun ∙ ap (λ (m : Marking). initial_marking m.count a.request) rest.marking)
+    (c.run-stepped.ensures.every whole (subst (Describes whole a.net.now) (sym (begins.limits.capacities ∙ rest.limits.capacities)) d))
     c.is_clear-clear.ensures after c.counts.ensures verdict (c.from-verdict.ensures ∙ c.check_after.ensures) c.if-is_granted.counts left)
 
 pub returns-clause-own : goal.returns-clause-own

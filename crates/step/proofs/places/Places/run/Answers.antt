@@ -25,7 +25,9 @@ loop-i-preserved c =
 
 pub returns-then-firings-eq-STEP_LIMIT-clause-every : goal.returns-then-firings-eq-STEP_LIMIT-clause-every
 returns-then-firings-eq-STEP_LIMIT-clause-every c =
-    ends_stopped c.args.net.now c.args.self.now c.loop-i.self c.loop-i.invariant (rw c.in-Some.is at c.next.ensures) c.if-firings-eq-STEP_LIMIT.true
+    λ whole d.
+    ends_stopped c.args.net.now c.args.self.now c.loop-i.self c.loop-i.invariant (rw c.in-Some.is at c.next.ensures) c.if-firings-eq-STEP_LIMIT.true whole d
+    tt
 
 pub returns-then-firings-eq-STEP_LIMIT-clause-outcome : goal.returns-then-firings-eq-STEP_LIMIT-clause-outcome
 returns-then-firings-eq-STEP_LIMIT-clause-outcome c =
@@ -33,7 +35,7 @@ returns-then-firings-eq-STEP_LIMIT-clause-outcome c =
 
 pub returns-clause-every : goal.returns-clause-every
 returns-clause-every c =
-    ends_quiet c.args.net.now c.args.self.now c.loop-i.self c.loop-i.invariant (rw c.in_default.is at c.next.ensures)
+    λ whole d. ends_quiet c.args.net.now c.args.self.now c.loop-i.self c.loop-i.invariant (rw c.in_default.is at c.next.ensures) whole d tt
 
 pub returns-clause-outcome : goal.returns-clause-outcome
 returns-clause-outcome c =
